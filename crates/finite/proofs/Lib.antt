@@ -1,0 +1,6 @@
+pub mod Tests
+pub mod Below
+pub mod Members
+pub mod Lists
+pub mod Update
+pub mod Decide

@@ -1,0 +1,30 @@
+-- Laws of tests, beside the kit's (mathlib.Core.Bool, borrow.Author.Tests).
+use mathlib.Core.Path.{_≡_, refl, sym}
+use mathlib.Core.Bool.{Bool, true, false, _&&_, _||_, true≢false}
+use mathlib.Core.Logic.{_⊎_, inl, inr}
+use mathlib.Core.Path.{_∙_}
+
+unfoldable pub true-or-false : (b : Bool) → (b ≡ true) ⊎ (b ≡ false)
+true-or-false true = inl refl
+true-or-false false = inr refl
+
+pub not-both : {b : Bool} → b ≡ true → b ≡ false → ⊥
+not-both p q = true≢false (sym p ∙ q)
+
+pub false-of : (b : Bool) → (b ≡ true → ⊥) → b ≡ false
+false-of true f = absurd (f refl)
+false-of false f = refl
+
+pub or-cases : (a b : Bool) → (a || b) ≡ true → (a ≡ true) ⊎ (b ≡ true)
+or-cases true b h = inl refl
+or-cases false b h = inr h
+
+-- tests that imply each other are equal
+pub test-ext : (a b : Bool) → (a ≡ true → b ≡ true) → (b ≡ true → a ≡ true) → a ≡ b
+test-ext true b f g = sym (f refl)
+test-ext false true f g = g refl
+test-ext false false f g = refl
+
+-- equal parts make equal conjunctions: for `search`, where a callee's answer is a part
+pub and-parts : {a b c d : Bool} → a ≡ c → b ≡ d → (a && b) ≡ (c && d)
+and-parts p q = rw (p, q)

@@ -1,0 +1,1 @@
+// No code: bounded quantifiers, sums and list builders (specs/) with their laws (proofs/), for the crates above.

@@ -1,0 +1,12 @@
+pub mod Instances
+pub mod Sequential
+pub mod LastWriter
+pub mod Edges
+pub mod Decide
+pub mod EdgeList
+pub mod Invariant
+pub mod Runs
+pub mod Progress
+pub mod Counts
+pub mod Theorems
+pub mod Gap

@@ -1,0 +1,33 @@
+-- The items run one after another, pass after pass: what every other order is compared with.
+use Prim.Native.Nat.{ℕ, zero, suc}
+use mathlib.Core.List.{map}
+use mathlib.Core.Logic.{ite}
+use native.Mathlib.Decide.{decLt}
+use Rattle.finite.specs.Update.{put}
+use Rattle.unroll.specs.System.{System}
+
+module _ (S : System) where
+  -- the word of item a on the store s
+  unfoldable pub wordOn : ℕ → (ℕ → ℕ) → ℕ
+  wordOn a s = S .compute a (map s (S .reads a))
+
+  -- the store after instance (p, a): its word in each place that it writes; an instance is made in the passes of its item alone
+  unfoldable pub execute : ℕ → ℕ → (ℕ → ℕ) → ℕ → ℕ
+  execute p a s = ite (decLt p (S .passes a)) (put (S .writes a) (wordOn a s) s) s
+
+  -- the store after the items 0 .. a-1 in pass p
+  unfoldable pub executeTo : ℕ → ℕ → (ℕ → ℕ) → ℕ → ℕ
+  executeTo p zero s = s
+  executeTo p (suc a) s = execute p a (executeTo p a s)
+
+  -- the store before pass p
+  unfoldable pub storeOf : ℕ → ℕ → ℕ
+  storeOf zero = S .initial
+  storeOf (suc p) = executeTo p (S .items) (storeOf p)
+
+  -- the store before instance (p, a), and the word of the instance
+  unfoldable pub storeAt : ℕ → ℕ → ℕ → ℕ
+  storeAt p a = executeTo p a (storeOf p)
+
+  unfoldable pub word : ℕ → ℕ → ℕ
+  word p a = wordOn a (storeAt p a)
