@@ -4,3 +4,4 @@ pub mod Members
 pub mod Lists
 pub mod Update
 pub mod Decide
+pub mod Sorted

@@ -1,0 +1,7 @@
+pub mod Writers
+pub mod ItemList
+pub mod Places
+pub mod Holders
+pub mod Simulation
+pub mod Theorems
+pub mod TwoRanks

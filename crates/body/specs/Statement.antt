@@ -1,0 +1,108 @@
+-- What is proved of every body that fits (proofs/Theorems.antt).
+use Prim.Native.Nat.{ℕ, zero, suc, _+_, _*_, _≤_, _<_}
+use mathlib.Core.Path.{_≡_}
+use mathlib.Core.Bool.{true, false}
+use mathlib.Core.Logic.{_⊎_, _↔_}
+use mathlib.Core.List.{List, [], _∷_}
+use mathlib.Core.Option.{none, some}
+use Rattle.finite.specs.Lists.{mem, position}
+use Rattle.unroll.specs.Instances.{Before}
+use Rattle.unroll.specs.Sequential.{storeAt, word}
+use Rattle.unroll.specs.Edges.{Edge}
+use Rattle.unroll.specs.Machine.{Call, item, Decides, reply}
+use Rattle.unroll.specs.Statement.{End, reached, steps, times, AnyOrder}
+use Rattle.body.specs.Body.{Body, Fits}
+use Rattle.body.specs.Loop.{loopWord, loopFinal}
+use Rattle.body.specs.Transfers.{lastBefore, source}
+use Rattle.body.specs.Items.{Item, task, send, receive, writer, itemCount, itemAt}
+use Rattle.body.specs.Places.{slot, copy, initial, system, resultOf}
+
+-- the first number in which two lists of numbers differ is less in the first
+abbrev pub Less : List ℕ → List ℕ → Type 0
+Less [] m = ⊥
+Less (x ∷ l) [] = ⊥
+Less (x ∷ l) (y ∷ m) = (x < y) ⊎ ((x ≡ y) × Less l m)
+
+module _ (B : Body) where
+  -- task j is the last that writes g, of the tasks 0 .. t-1
+  pub record LastWriter (t g j : ℕ) : Type 0 where
+    pub below : j < t
+    pub writes : mem g (B .writes j) ≡ true
+    pub last : (k : ℕ) → j < k → k < t → mem g (B .writes k) ≡ false
+
+  -- task j in pass p writes g before task t in pass 1, and no task instance in between does
+  pub record Source (t g p j : ℕ) : Type 0 where
+    pub below : j < B .tasks
+    pub writes : mem g (B .writes j) ≡ true
+    pub before : Before p j 1 t
+    pub last : (r k : ℕ) → k < B .tasks → Before p j r k → Before r k 1 t → mem g (B .writes k) ≡ false
+
+  -- task t on rank q reads g with source i
+  pub record Reader (i g q t : ℕ) : Type 0 where
+    pub below : t < B .tasks
+    pub placed : B .rank t ≡ q
+    pub reads : mem g (B .reads t) ≡ true
+    pub sourced : source B t g ≡ some i
+
+  -- there is a transfer for writer i, region g and rank q other than i's rank exactly if some task on q reads g with source i
+  pub record IsTransfer (i g q : ℕ) : Type 0 where
+    pub below : i < B .tasks
+    pub writes : mem g (B .writes i) ≡ true
+    pub exists : q < B .ranks
+    pub other : q ≡ B .rank i → ⊥
+    pub reader : (t : ℕ) × Reader i g q t
+
+  abbrev pub Listed : Item → Type 0
+  Listed x = (a : ℕ) × (a < itemCount B) × (itemAt B a ≡ x)
+
+  -- the items' order: by task; the task itself, then its transfers by written region in record order, by rank, send before receive
+  abbrev pub key : Item → List ℕ
+  key (task i) = i ∷ 0 ∷ 0 ∷ 0 ∷ []
+  key (send i g q) = i ∷ suc (position g (B .writes i)) ∷ q ∷ 0 ∷ []
+  key (receive i g q) = i ∷ suc (position g (B .writes i)) ∷ q ∷ 1 ∷ []
+
+  -- what the definitions mean
+  pub record Meaning : Type 0 where
+    pub last-writer : (t g j : ℕ) → (lastBefore B t g ≡ some j) ↔ LastWriter t g j
+    pub no-writer : (t g : ℕ) → (lastBefore B t g ≡ none) ↔ ((k : ℕ) → k < t → mem g (B .writes k) ≡ false)
+    pub source : (t g j : ℕ) → t < B .tasks → (source B t g ≡ some j) ↔ ((p : ℕ) × Source t g p j)
+    -- the items, once each and in order
+    pub tasks-listed : (i : ℕ) → Listed (task i) ↔ (i < B .tasks)
+    pub sends-listed : (i g q : ℕ) → Listed (send i g q) ↔ IsTransfer i g q
+    pub receives-listed : (i g q : ℕ) → Listed (receive i g q) ↔ IsTransfer i g q
+    pub ordered : (a b : ℕ) → a < b → b < itemCount B → Less (key (itemAt B a)) (key (itemAt B b))
+    pub once : (a b : ℕ) → a < itemCount B → b < itemCount B → itemAt B a ≡ itemAt B b → a ≡ b
+    -- a receive stands right after its send
+    pub send-then : (a i g q : ℕ) → a < itemCount B → itemAt B a ≡ send i g q → (suc a < itemCount B) × (itemAt B (suc a) ≡ receive i g q)
+    pub receive-after : (a i g q : ℕ) → a < itemCount B → itemAt B a ≡ receive i g q → (b : ℕ) × (a ≡ suc b) × (itemAt B b ≡ send i g q)
+    -- copies and slots are places apart, and hold what the opening sets
+    pub copies-apart : (q g r h : ℕ) → g < B .regions → h < B .regions → copy B q g ≡ copy B r h → (q ≡ r) × (g ≡ h)
+    pub slots-apart : (a b : ℕ) → slot a ≡ slot b → a ≡ b
+    pub copy-no-slot : (q g a : ℕ) → q < B .ranks → g < B .regions → copy B q g ≡ slot a → ⊥
+    pub copy-opening : (q g : ℕ) → q < B .ranks → g < B .regions → initial B (copy B q g) ≡ B .start g
+    pub slot-opening : (a : ℕ) → initial B (slot a) ≡ 0
+    -- no edge between tasks on two ranks, whatever regions they name
+    pub one-rank : (a b d i j : ℕ) → Edge (system B) a b d → itemAt B a ≡ task i → itemAt B b ≡ task j → B .rank i ≡ B .rank j
+
+  -- the items in order compute the loop: the words of the writers, and each region's final number
+  pub record InOrder : Type 0 where
+    pub words : (p a : ℕ) → p < B .passes → a < itemCount B → word (system B) p a ≡ loopWord B p (writer (itemAt B a))
+    pub written : (g j : ℕ) → g < B .regions → lastBefore B (B .tasks) g ≡ some j → storeAt (system B) (B .passes) 0 (copy B (B .rank j) g) ≡ loopFinal B g
+    pub unwritten : (g : ℕ) → lastBefore B (B .tasks) g ≡ none → loopFinal B g ≡ B .start g
+    pub no-pass : (g : ℕ) → B .passes ≡ 0 → loopFinal B g ≡ B .start g
+
+-- demand 3 of a body's items, whatever tests acceptance: every list of calls from the opening answers the loop's numbers
+pub record Computes (B : Body) (can : Decides (system B)) : Type 0 where
+  pub any-order : AnyOrder (system B) can
+  -- the k-th accepted start or finish of an item answers the word of its writer in pass k of the loop, which is one of its passes
+  pub answers : (l : List Call) (c : Call) (v : ℕ) → reply (system B) can (reached (system B) can l) c ≡ some v →
+      (item c < itemCount B) × (times (system B) can c l < B .passes) × (v ≡ loopWord B (times (system B) can c l) (writer (itemAt B (item c))))
+  -- the end is reached exactly when the accepted steps are 2 × passes × items
+  pub ends : (l : List Call) → End (system B) (reached (system B) can l) ↔ (steps (system B) can l ≡ 2 * (B .passes * itemCount B))
+  -- and then each region's result is its final number in the loop
+  pub results : (l : List Call) → End (system B) (reached (system B) can l) → (g : ℕ) → g < B .regions → resultOf B (reached (system B) can l) g ≡ loopFinal B g
+
+pub record Laws : Type 0 where
+  pub meaning : (B : Body) → Fits B → Meaning B
+  pub in-order : (B : Body) → Fits B → InOrder B
+  pub computes : (B : Body) → Fits B → (can : Decides (system B)) → Computes B can
