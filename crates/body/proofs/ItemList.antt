@@ -1,5 +1,5 @@
 -- The item list: which items stand in it, and in which order.
-use Prim.Native.Nat.{ℕ, zero, suc, _+_, _≤_, _<_}
+use Prim.Native.Nat.{ℕ, suc, _+_, _≤_, _<_}
 use mathlib.Core.Path.{_≡_, refl, sym, _∙_, ap, subst, subst₂}
 use mathlib.Core.Bool.{true}
 use mathlib.Core.Logic.{_⊎_, inl, inr, ⊎-elim, _↔_}
@@ -7,8 +7,7 @@ use mathlib.Core.List.{List, [], _∷_, _++_, flatMap, List·Memᴰ as In, List�
 use mathlib.Core.Option.{Option, none, some, Option·some-injective, Option·none-ne-some}
 use native.Mathlib.Decide.{decLt}
 use native.Mathlib.Omega.{arith}
-use lib.ListN.{length, getD}
-use Rattle.finite.specs.Lists.{mem, position, range, gather}
+use Rattle.finite.specs.Lists.{position, range, gather}
 use Rattle.finite.proofs.Lists.{in-range, in-range-from, in-gather-from}
 use Rattle.finite.proofs.Members.{in-flatMap, in-flatMap-from, in-at, at-in}
 use Rattle.finite.proofs.Sorted.{Sorted, sorted-at, sorted-flatMap, sorted-gather, sorted-range, sorted-distinct}
@@ -180,15 +179,17 @@ module _ (B : Body) where
       between g h s x y (j, a, b, e) (k, c, d, f) = rw (e, f) (inl s)
 
   pair-sorted : (i : ℕ) (t : Transfer) → Sorted Precedes (pairOf t)
-  pair-sorted i (transfer j g q) =
-      (λ y m. ⊎-elim (λ (e : y ≡ receive j g q). rw e (inr (refl, inr (refl, inr (refl, inl (omega arith)))))) (λ n. absurd (in-nil n)) (in-cases m),
-      (λ y m. absurd (in-nil m), tt))
+  pair-sorted i (transfer j g q) = (
+    λ y m. ⊎-elim (λ (e : y ≡ receive j g q). rw e (inr (refl, inr (refl, inr (refl, inl (omega arith)))))) (λ n. absurd (in-nil n)) (in-cases m),
+    (λ y m. absurd (in-nil m), tt),
+  )
 
   block-sorted : Fits B → (i : ℕ) → i < B .tasks → Sorted Precedes (block B i)
-  block-sorted F i l =
-      (λ y m. behind y (in-flatMap-from pairOf y (transfersOf B i) m),
-      sorted-flatMap (λ (x y : Transfer). Less (transferKey x) (transferKey y)) Precedes pairOf (transfersOf B i) (transfers-sorted F i l) (λ t m. pair-sorted i t)
-      (λ t t′ m m′ s x y u v. between t t′ s x y u v (transfer-from B i t m) (transfer-from B i t′ m′)))
+  block-sorted F i l = (
+    λ y m. behind y (in-flatMap-from pairOf y (transfersOf B i) m),
+    sorted-flatMap (λ (x y : Transfer). Less (transferKey x) (transferKey y)) Precedes pairOf (transfersOf B i) (transfers-sorted F i l) (λ t m. pair-sorted i t)
+        (λ t t′ m m′ s x y u v. between t t′ s x y u v (transfer-from B i t m) (transfer-from B i t′ m′)),
+  )
     where
       behind : (y : Item) → (t : Transfer) × In t (transfersOf B i) × In y (pairOf t) → Precedes (task i) y
       behind y (t, m, n) =

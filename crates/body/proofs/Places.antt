@@ -1,17 +1,14 @@
 -- The numbering of places: copies and slots are apart, and what they hold at the opening.
-use Prim.Native.Nat.{ℕ, zero, suc, _+_, _-_, _*_, _/_, _%_, _≤_, _<_}
-use mathlib.Core.Path.{_≡_, refl, sym, _∙_, ap, subst}
-use mathlib.Core.Bool.{Bool, true, false, cond}
-use mathlib.Core.Logic.{_⊎_, inl, inr, ⊎-elim}
-use mathlib.Core.List.{List}
+use Prim.Native.Nat.{ℕ, suc, _+_, _*_, _/_, _%_, _≤_, _<_}
+use mathlib.Core.Path.{_≡_, sym, _∙_, ap, subst}
+use mathlib.Core.Bool.{true}
 use native.Mathlib.Nat.{mul-add-mod-self-right, mod-eq-of-lt, mul-add-div-right, div-eq-of-lt, add-zero, mul-le-mul-right, suc-mul}
 use native.Mathlib.Omega.{arith}
 use borrow.Author.Tests.{lt-ltb, le-ltb}
-use lib.Dec.{ltb}
 use Rattle.finite.specs.Lists.{mem}
 use Rattle.finite.proofs.Members.{mem-map-from}
 use Rattle.unroll.specs.System.{Accesses, reading, writing}
-use Rattle.unroll.specs.Edges.{Dependence, Edge, rule, reuse}
+use Rattle.unroll.specs.Edges.{Edge, rule, reuse}
 use Rattle.body.specs.Body.{Body, Fits}
 use Rattle.body.specs.Items.{Item, task, itemCount, itemAt}
 use Rattle.body.specs.Places.{slot, copy, initial, readsOf, writesOf, system}
@@ -24,11 +21,11 @@ slots-apart a b e = omega arith
 module _ (B : Body) where
   copy-region : (q g : ℕ) → g < B .regions → copy B q g % B .regions ≡ g
   unfolding copy
-  copy-region q g h = mul-add-mod-self-right q (B .regions) g ∙ mod-eq-of-lt h
+  copy-region q g h = mul-add-mod-self-right _ (B .regions) g ∙ mod-eq-of-lt h
 
   copy-rank : (q g : ℕ) → g < B .regions → copy B q g / B .regions ≡ q
   unfolding copy
-  copy-rank q g h = let k : 0 < B .regions = omega arith in mul-add-div-right k q g ∙ rw (div-eq-of-lt h) (add-zero q)
+  copy-rank q g h = let k : 0 < B .regions = omega arith in mul-add-div-right k _ g ∙ rw (div-eq-of-lt h) (add-zero q)
 
   pub copies-apart : (q g r h : ℕ) → g < B .regions → h < B .regions → copy B q g ≡ copy B r h → (q ≡ r) × (g ≡ h)
   copies-apart q g r h l m e =

@@ -1,13 +1,12 @@
 -- The items run one after another, against the unrolled loop.
 use Prim.Native.Nat.{ℕ, zero, suc, _+_, _-_, _≤_, _<_}
 use mathlib.Core.Path.{_≡_, refl, sym, _∙_, ap, subst}
-use mathlib.Core.Bool.{Bool, true, false}
+use mathlib.Core.Bool.{true, false}
 use mathlib.Core.Logic.{_⊎_, inl, inr, ⊎-elim}
 use mathlib.Core.List.{List, [], _∷_, _++_, map, flatMap, head-eq-of-cons-eq, tail-eq-of-cons-eq, List·Memᴰ as In, List·Memᴰ·head as here, List·Memᴰ·tail as there, List·Memᴰ·not-nil as in-nil, List·Memᴰ·cases-cons as in-cases}
-use mathlib.Core.Option.{Option, none, some}
-use native.Mathlib.Decide.{decLt, ℕ-discrete}
+use native.Mathlib.Decide.{ℕ-discrete}
 use native.Mathlib.Omega.{arith}
-use lib.ListN.{length, getD, drop}
+use lib.ListN.{length, drop}
 use lib.Seq.{drop-cons}
 use Rattle.finite.specs.Lists.{mem, range}
 use Rattle.finite.proofs.Tests.{true-or-false, not-both}
@@ -179,10 +178,11 @@ module _ (B : Body) (F : Fits B) (p : ℕ) (lp : p < B .passes) (t : ℕ) (lt : 
       let q = r .target in
       let rest = flatMap pairOf l ++ s in
       let h₀ : At B k (send t g q ∷ receive t g q ∷ rest) = subst (λ (z : Transfer). At B k (pairOf z ++ flatMap pairOf l ++ s)) (r .same) h in
-      let h₁ : At B (suc k) (receive t g q ∷ rest) = at-next B k (send t g q) (receive t g q ∷ rest) h₀ in
-      (at-next B (suc k) (receive t g q) rest h₁,
-      after-transfer k g q l (r .written) (subst (λ (z : Transfer). Behind-task B p t (z ∷ l) k) (r .same) M)
-      (at-item B k (send t g q) (receive t g q ∷ rest) h₀) (at-item B (suc k) (receive t g q) rest h₁))
+      let h₁ : At B (suc k) (receive t g q ∷ rest) = at-next B k (send t g q) (receive t g q ∷ rest) h₀ in (
+        at-next B (suc k) (receive t g q) rest h₁,
+        after-transfer k g q l (r .written) (subst (λ (z : Transfer). Behind-task B p t (z ∷ l) k) (r .same) M)
+            (at-item B k (send t g q) (receive t g q ∷ rest) h₀) (at-item B (suc k) (receive t g q) rest h₁),
+      )
 
   after-transfers : (l : List Transfer) (s : List Item) (k : ℕ) → ((x : Transfer) → In x l → Transferred B t x) → At B k (flatMap pairOf l ++ s) → Behind-task B p t l k →
       (j : ℕ) × At B j s × Behind-task B p t [] j

@@ -1,23 +1,23 @@
 -- The statements of specs/Statement.antt, proved.
-use Prim.Native.Nat.{ℕ, zero, suc, _+_, _-_, _*_, _≤_, _<_}
-use mathlib.Core.Path.{_≡_, refl, sym, _∙_, ap, subst}
+use Prim.Native.Nat.{ℕ, zero, suc, _*_, _<_}
+use mathlib.Core.Path.{_≡_, refl, sym, _∙_, ap}
 use mathlib.Core.Bool.{Bool, true, false, cond}
-use mathlib.Core.Logic.{_⊎_, inl, inr, ⊎-elim, _↔_, Iff·trans}
+use mathlib.Core.Logic.{⊎-elim, _↔_}
 use mathlib.Core.List.{List}
 use mathlib.Core.Option.{Option, none, some}
 use native.Mathlib.Nat.{mul-comm, mul-assoc}
 use native.Mathlib.Omega.{arith}
-use borrow.Author.Tests.{eqb-true, eqb-false}
+use borrow.Author.Tests.{eqb-true}
 use lib.Dec.{eqb}
 use Rattle.finite.specs.Lists.{mem}
 use Rattle.finite.proofs.Below.{sum-const}
 use Rattle.finite.proofs.Update.{put-out}
 use Rattle.unroll.specs.Sequential.{storeAt}
-use Rattle.unroll.specs.Machine.{State, Call, item, Decides, reply}
-use Rattle.unroll.specs.Statement.{WritersMade, End, allSteps, reached, steps, times, AnyOrder}
+use Rattle.unroll.specs.Machine.{Call, item, Decides, reply}
+use Rattle.unroll.specs.Statement.{End, allSteps, reached, steps, times, AnyOrder}
 use Rattle.unroll.proofs.Theorems.{any-order, equal-passes}
 use Rattle.body.specs.Body.{Body, Fits}
-use Rattle.body.specs.Loop.{taskWord, tasksRun, cellsOf, cellsAt, loopWord, loopFinal}
+use Rattle.body.specs.Loop.{tasksRun, cellsOf, cellsAt, loopWord, loopFinal}
 use Rattle.body.specs.Transfers.{lastBefore}
 use Rattle.body.specs.Items.{writer, itemCount, itemAt}
 use Rattle.body.specs.Places.{copy, system, resultFrom, resultOf}
@@ -25,7 +25,7 @@ use Rattle.body.specs.Statement.{Meaning, InOrder, Computes, Laws}
 use Rattle.body.proofs.Writers.{last-writer, no-writer, sources, last-some, last-none}
 use Rattle.body.proofs.ItemList.{tasks-listed, sends-listed, receives-listed, ordered, once, send-then, receive-after}
 use Rattle.body.proofs.Places.{slots-apart, copies-apart, copy-no-slot, copy-opening, slot-opening, one-rank}
-use Rattle.body.proofs.Holders.{holder, upToDate, holder-start, up-to-date-own}
+use Rattle.body.proofs.Holders.{holder, holder-start, up-to-date-own}
 use Rattle.body.proofs.Simulation.{before-pass, words}
 
 module _ (B : Body) where

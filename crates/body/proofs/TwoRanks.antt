@@ -1,13 +1,12 @@
 -- The paper's example of two ranks, computed.
-use Prim.Native.Nat.{ℕ, zero, suc, _+_, _*_, _≤_, _<_}
-use mathlib.Core.Path.{_≡_, refl, sym, subst}
+use Prim.Native.Nat.{ℕ, zero, suc, _<_}
+use mathlib.Core.Path.{_≡_, refl, subst}
 use mathlib.Core.Bool.{true, decide}
 use mathlib.Core.Logic.{_↔_, ⊎-elim, Dec·and}
-use mathlib.Core.List.{List, [], _∷_, _++_, map, flatMap, List·Memᴰ as In}
+use mathlib.Core.List.{List, [], _∷_, map, flatMap, List·Memᴰ as In}
 use mathlib.Core.Option.{Option, none, some, orElse}
 use native.Mathlib.Decide.{decLt, decLe, ℕ-discrete}
 use native.Mathlib.Omega.{arith}
-use lib.ListN.{getD}
 use Rattle.finite.specs.Below.{anyBelow, sumBelow}
 use Rattle.finite.specs.Lists.{mem, distinct, range, gather}
 use Rattle.finite.specs.Update.{update, put}
@@ -16,7 +15,7 @@ use Rattle.finite.proofs.Decide.{dec-map, dec-imp, dec-sum, dec-then, dec-below
 use Rattle.finite.proofs.Members.{mem-one, mem-cases}
 use Rattle.unroll.specs.Sequential.{wordOn, execute, executeTo, storeOf, storeAt, word}
 use Rattle.unroll.specs.Edges.{Edge}
-use Rattle.unroll.specs.Machine.{State, Call, start, finish, opening, startState, finishState, reply, step, run}
+use Rattle.unroll.specs.Machine.{State, Call, start, finish, opening, startState, finishState, reply, step}
 use Rattle.unroll.specs.Statement.{allSteps}
 use Rattle.unroll.proofs.LastWriter.{scan, scan-suc, last-same, last-next, last-far, last-writer}
 use Rattle.unroll.proofs.Decide.{dec-before, dec-writes, dec-accesses, dec-conflict, dec-last, dec-unwritten, dec-through, dec-dependence, dec-edge, dec-met, dec-ready, dec-start, dec-finish, decides}
@@ -24,8 +23,8 @@ use Rattle.unroll.proofs.EdgeList.{edgesBetween, edges, edges-exactly}
 use Rattle.body.specs.Body.{Fits}
 use Rattle.body.specs.Loop.{taskWord, tasksRun, cellsOf, cellsAt, loopWord, loopFinal}
 use Rattle.body.specs.Transfers.{lastBefore, source, wanted, transferred, transfersOf}
-use Rattle.body.specs.Items.{Item, task, send, receive, itemList, itemAt}
-use Rattle.body.specs.Places.{slot, copy, readsOf, writesOf, computeOf, initial, system, resultOf}
+use Rattle.body.specs.Items.{task, send, receive, itemList, itemAt}
+use Rattle.body.specs.Places.{slot, copy, readsOf, writesOf, computeOf, initial, system}
 use Rattle.body.specs.TwoRanks.{twoRanks, tenEdges, TwoRanks}
 
 regions-below : (i g : ℕ) → i < 2 → mem g (twoRanks .reads i) ≡ true → g < 2

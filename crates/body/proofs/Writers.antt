@@ -1,22 +1,21 @@
 -- Last writers, sources and transfers: what their definitions mean.
-use Prim.Native.Nat.{ℕ, zero, suc, _+_, _-_, _≤_, _<_}
+use Prim.Native.Nat.{ℕ, zero, suc, _<_}
 use mathlib.Core.Path.{_≡_, refl, sym, _∙_, ap, subst}
-use mathlib.Core.Bool.{Bool, true, false, cond, not, _&&_, and-eq-true-iff}
-use mathlib.Core.Logic.{_⊎_, inl, inr, ⊎-elim, _↔_}
-use mathlib.Core.List.{List, [], _∷_, flatMap, List·Memᴰ as In}
-use mathlib.Core.Option.{Option, none, some, orElse, Option·some-injective, Option·none-ne-some}
+use mathlib.Core.Bool.{true, false, not, _&&_, and-eq-true-iff}
+use mathlib.Core.Logic.{inl, inr, ⊎-elim, _↔_}
+use mathlib.Core.List.{List·Memᴰ as In}
+use mathlib.Core.Option.{Option, none, some, Option·some-injective, Option·none-ne-some}
 use mathlib.Mathlib.Data.Option.Basic.{orElse-eq-some}
 use native.Mathlib.Decide.{decLt}
 use native.Mathlib.Omega.{arith}
 use borrow.Author.Tests.{eqb-true, eqb-false, eq-eqb, ne-eqb, not-true}
 use lib.Dec.{eqb}
-use Rattle.finite.specs.Below.{anyBelow}
 use Rattle.finite.specs.Lists.{mem, gather}
 use Rattle.finite.proofs.Tests.{true-or-false, not-both}
 use Rattle.finite.proofs.Below.{below-suc, any-at, any-from}
 use Rattle.finite.proofs.Members.{mem-in, in-mem, in-flatMap, in-flatMap-from}
 use Rattle.finite.proofs.Lists.{in-gather, in-gather-from}
-use Rattle.unroll.specs.Instances.{Before, earlier, within}
+use Rattle.unroll.specs.Instances.{earlier, within}
 use Rattle.unroll.proofs.Instances.{before-pass, before-item, between-same, between-next}
 use Rattle.body.specs.Body.{Body}
 use Rattle.body.specs.Transfers.{Transfer, transfer, isTask, lastBefore, source, wanted, transferred, transfersOf}
@@ -95,29 +94,35 @@ module _ (B : Body) where
       (orElse-eq-some (lastBefore B t g) (lastBefore B (B .tasks) g) j .0 e)
     where
       same : LastWriter B t g j → (p : ℕ) × Source B t g p j
-      same h =
-          (1, record {
-            below = omega (arith, h .below);
-            writes = h .writes;
-            before = within refl (h .below);
-            last = λ r k lk u v. let b : (j < k) × (k < t) = between-same 1 j 1 t r k refl u v in h .last k (b .0) (b .1);
-          })
+      same h = (
+        1,
+        record {
+          below = omega (arith, h .below);
+          writes = h .writes;
+          before = within refl (h .below);
+          last = λ r k lk u v. let b : (j < k) × (k < t) = between-same 1 j 1 t r k refl u v in h .last k (b .0) (b .1);
+        },
+      )
 
       previous : ((k : ℕ) → k < t → mem g (B .writes k) ≡ false) → LastWriter B (B .tasks) g j → (p : ℕ) × Source B t g p j
-      previous f h =
-          (0, record {
-            below = h .below;
-            writes = h .writes;
-            before = earlier (omega arith);
-            last = λ r k lk u v. ⊎-elim (λ (z : (0 ≡ r) × (j < k)). h .last k (z .1) lk) (λ (z : (1 ≡ r) × (k < t)). f k (z .1)) (between-next 0 j 1 t r k (omega arith) u v);
-          })
+      previous f h = (
+        0,
+        record {
+          below = h .below;
+          writes = h .writes;
+          before = earlier (omega arith);
+          last = λ r k lk u v. ⊎-elim (λ (z : (0 ≡ r) × (j < k)). h .last k (z .1) lk) (λ (z : (1 ≡ r) × (k < t)). f k (z .1)) (between-next 0 j 1 t r k (omega arith) u v);
+        },
+      )
 
   some-source : (t g j p : ℕ) → t < B .tasks → Source B t g p j → source B t g ≡ some j
   unfolding source
   some-source t g j zero lt h =
       orElse-eq-some (lastBefore B t g) (lastBefore B (B .tasks) g) j .1
-      (inr (none-last t g (λ k l. h .last 1 k (omega arith) (earlier (omega arith)) (within refl l)),
-      some-last (B .tasks) g j (record { below = h .below; writes = h .writes; last = λ k u v. h .last 0 k v (within refl u) (earlier (omega arith)) })))
+      (inr (
+        none-last t g (λ k l. h .last 1 k (omega arith) (earlier (omega arith)) (within refl l)),
+        some-last (B .tasks) g j (record { below = h .below; writes = h .writes; last = λ k u v. h .last 0 k v (within refl u) (earlier (omega arith)) }),
+      ))
   some-source t g j (suc p) lt h =
       let e : suc p ≡ 1 = omega (arith, before-pass (suc p) j 1 t (h .before)) in
       orElse-eq-some (lastBefore B t g) (lastBefore B (B .tasks) g) j .1

@@ -1,6 +1,6 @@
 -- The source of a read, and the transfers between ranks (paper 01, "Transfers and items").
 use Prim.Native.Nat.{ℕ, zero, suc}
-use mathlib.Core.Bool.{Bool, true, false, cond, not, _&&_}
+use mathlib.Core.Bool.{Bool, false, cond, not, _&&_}
 use mathlib.Core.List.{List, flatMap}
 use mathlib.Core.Option.{Option, none, some, orElse}
 use lib.Dec.{eqb}

@@ -1,5 +1,5 @@
 -- The paper's example of two tasks on two ranks (paper 01, "The run program"), and what is computed of it.
-use Prim.Native.Nat.{ℕ, zero, suc, _+_, _%_, _^_}
+use Prim.Native.Nat.{ℕ, _+_, _%_, _^_}
 use mathlib.Core.Path.{_≡_}
 use mathlib.Core.Logic.{_↔_}
 use mathlib.Core.List.{List, [], _∷_, map, List·Memᴰ as In}
@@ -9,7 +9,7 @@ use Rattle.unroll.specs.Edges.{Edge}
 use Rattle.unroll.specs.Statement.{allSteps}
 use Rattle.body.specs.Body.{Body, Fits}
 use Rattle.body.specs.Loop.{loopWord, loopFinal}
-use Rattle.body.specs.Items.{Item, task, send, receive, itemList}
+use Rattle.body.specs.Items.{task, send, receive, itemList}
 use Rattle.body.specs.Places.{system}
 
 abbrev pub sum : List ℕ → ℕ

@@ -1,9 +1,9 @@
 -- Laws of range, tabulate, gather and flatMap. Those that end in -none, -more and -done are a loop's that fills a list: before
 -- its first turn, over a turn, and after its last.
-use Prim.Native.Nat.{ℕ, zero, suc, _+_, _-_, _≤_, _<_}
-use mathlib.Core.Path.{_≡_, refl, sym, _∙_, ap, subst}
+use Prim.Native.Nat.{ℕ, zero, suc, _+_, _≤_, _<_}
+use mathlib.Core.Path.{_≡_, refl, sym, _∙_, ap}
 use mathlib.Core.Bool.{Bool, true, false, cond}
-use mathlib.Core.Logic.{_⊎_, inl, inr, ⊎-elim}
+use mathlib.Core.Logic.{⊎-elim}
 use mathlib.Core.List.{List, [], _∷_, _++_, flatMap, append-nil, append-assoc, List·Memᴰ as In, List·Memᴰ·head as here, List·Memᴰ·tail as there, List·Memᴰ·not-nil as in-nil, List·Memᴰ·cases-cons as in-cases, Memᴰ·append-left as in-left, Memᴰ·append-right as in-right, List·Memᴰ·append-cases as in-append, List·Memᴰ·eq-of-singleton as in-one}
 use native.Mathlib.Decide.{decLt}
 use native.Mathlib.Nat.{add-zero}
@@ -13,7 +13,6 @@ use lib.ListN.{length, getD, take, set, length-append, List·getD-append}
 use lib.Seq.{take-suc-set, take-set-le, take-all, getD-at}
 use Rattle.finite.specs.Below.{countBelow}
 use Rattle.finite.specs.Lists.{range, tabulate, gather}
-use Rattle.finite.proofs.Tests.{true-or-false}
 
 -- range
 

@@ -1,12 +1,11 @@
 -- Lists whose elements stand in order by a relation.
 use Prim.Native.Nat.{ℕ, zero, suc, _+_, _≤_, _<_}
-use mathlib.Core.Path.{_≡_, refl, sym, _∙_, ap, subst}
-use mathlib.Core.Bool.{Bool, true, false, cond, not, _&&_, and-eq-true-iff}
-use mathlib.Core.Logic.{_⊎_, inl, inr, ⊎-elim}
-use mathlib.Core.List.{List, [], _∷_, _++_, flatMap, List·Memᴰ as In, List·Memᴰ·head as here, List·Memᴰ·tail as there, List·Memᴰ·not-nil as in-nil, List·Memᴰ·cases-cons as in-cases, List·Memᴰ·append-cases as in-append, List·Memᴰ·eq-of-singleton as in-one}
+use mathlib.Core.Path.{_≡_, refl, sym, subst}
+use mathlib.Core.Bool.{Bool, true, false, cond, not, and-eq-true-iff}
+use mathlib.Core.Logic.{⊎-elim}
+use mathlib.Core.List.{List, [], _∷_, _++_, flatMap, List·Memᴰ as In, List·Memᴰ·head as here, List·Memᴰ·tail as there, List·Memᴰ·not-nil as in-nil, List·Memᴰ·append-cases as in-append, List·Memᴰ·eq-of-singleton as in-one}
 use native.Mathlib.Omega.{arith}
-use borrow.Author.Tests.{eqb-true, eq-eqb, ne-eqb, not-true}
-use lib.Dec.{eqb}
+use borrow.Author.Tests.{eq-eqb, ne-eqb, not-true}
 use lib.ListN.{length, getD}
 use Rattle.finite.specs.Lists.{mem, distinct, position, range, gather}
 use Rattle.finite.proofs.Tests.{not-both}
@@ -80,7 +79,8 @@ unfolding distinct
 sorted-distinct [] h = tt
 sorted-distinct (x ∷ l) h =
     let d = and-eq-true-iff (not (mem x l)) (distinct l) .0 h in
-    let n : mem x l ≡ false = not-true (mem x l) (d .0) in
-    (λ y m. omega (arith, position-head x l, position-tail x y l m n),
-    sorted-imp (λ (y z : ℕ). position y l < position z l) (λ (y z : ℕ). position y (x ∷ l) < position z (x ∷ l)) l
-    (λ y z m k s. omega (arith, position-tail x y l m n, position-tail x z l k n)) (sorted-distinct l (d .1)))
+    let n : mem x l ≡ false = not-true (mem x l) (d .0) in (
+      λ y m. omega (arith, position-head x l, position-tail x y l m n),
+      sorted-imp (λ (y z : ℕ). position y l < position z l) (λ (y z : ℕ). position y (x ∷ l) < position z (x ∷ l)) l
+          (λ y z m k s. omega (arith, position-tail x y l m n, position-tail x z l k n)) (sorted-distinct l (d .1)),
+    )

@@ -1,7 +1,7 @@
 -- The number of accepted calls, and that accepted calls lead on to the end.
-use Prim.Native.Nat.{ℕ, zero, suc, _+_, _*_, _≤_, _<_}
-use mathlib.Core.Path.{_≡_, refl, sym, _∙_, ap, subst}
-use mathlib.Core.Logic.{_⊎_, inl, inr, _↔_, ite}
+use Prim.Native.Nat.{ℕ, zero, suc, _+_, _*_, _≤_}
+use mathlib.Core.Path.{_≡_, refl, sym, _∙_, ap}
+use mathlib.Core.Logic.{inl, inr, _↔_}
 use mathlib.Core.List.{List, [], _∷_, _++_}
 use native.Mathlib.Omega.{arith}
 use lib.ListN.{length}
@@ -47,16 +47,23 @@ module _ (S : System) where
   end-total : (s : State) → Invariant S s → total s ≡ allSteps S → End S s
   unfolding allSteps
   end-total s i e a l =
-      omega (arith, i .low a, i .most a,
-      sum-tight (S .items) (λ a. s .started a + s .finished a) (λ a. 2 * S .passes a) (λ a l. omega (arith, i .low a, i .most a)) e a l)
+      omega (
+        arith,
+        i .low a,
+        i .most a,
+        sum-tight (S .items) (λ a. s .started a + s .finished a) (λ a. 2 * S .passes a) (λ a l. omega (arith, i .low a, i .most a)) e a l,
+      )
 
 module _ (S : System) (can : Decides S) where
   total-run : (s : State) (l : List Call) → total S (run S can s l) ≡ total S s + accepted S can every s l
   unfolding run accepted
   total-run s [] = omega arith
   total-run s (c ∷ l) =
-      omega (arith, total-run (step S can s c) l,
-      step-ind S can (λ t n. total S t ≡ total S s + n) s c 1 (λ h. omega (arith, total-after S s c h)) (omega arith))
+      omega (
+        arith,
+        total-run (step S can s c) l,
+        step-ind S can (λ t n. total S t ≡ total S s + n) s c 1 (λ h. omega (arith, total-after S s c h)) (omega arith),
+      )
 
   pub counts : (l : List Call) → steps S can l ≡ total S (reached S can l)
   counts l = omega (arith, total-run (opening S) l, total-opening S)

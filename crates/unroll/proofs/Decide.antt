@@ -1,9 +1,9 @@
 -- Edges and acceptance are decided, by computation.
-use Prim.Native.Nat.{ℕ, zero, suc, _+_, _-_, _≤_, _<_}
+use Prim.Native.Nat.{ℕ, suc, _+_, _-_, _≤_, _<_}
 use mathlib.Core.Path.{_≡_, subst}
 use mathlib.Core.Bool.{true, Bool-discrete}
 use mathlib.Core.Logic.{_⊎_, inl, inr, ⊎-elim, Dec·and}
-use mathlib.Core.List.{List, _++_}
+use mathlib.Core.List.{_++_}
 use native.Mathlib.Decide.{decLt, decLe, ℕ-discrete}
 use native.Mathlib.Omega.{arith}
 use Rattle.finite.specs.Lists.{mem}
@@ -12,7 +12,7 @@ use Rattle.finite.proofs.Members.{mem-append-left, mem-append-right}
 use Rattle.unroll.specs.Instances.{Before, earlier, within}
 use Rattle.unroll.specs.System.{System, Reads, Writes, Accesses, reading, writing}
 use Rattle.unroll.specs.Edges.{Conflict, Unwritten, Dependence, Edge, rule, reuse}
-use Rattle.unroll.specs.Machine.{State, Call, start, finish, Met, CanStart, CanFinish, Decides}
+use Rattle.unroll.specs.Machine.{State, start, finish, Met, CanStart, CanFinish, Decides}
 use Rattle.unroll.proofs.LastWriter.{Last, clear, writer, last-writer}
 use Rattle.unroll.proofs.Edges.{edge-distance, edge-from}
 

@@ -1,7 +1,7 @@
 -- The list of all edges, computed.
-use Prim.Native.Nat.{ℕ, zero, suc, _+_, _≤_, _<_}
+use Prim.Native.Nat.{ℕ, _<_}
 use mathlib.Core.Path.{_≡_, sym, subst}
-use mathlib.Core.Bool.{Bool, true, decide, decide-iff}
+use mathlib.Core.Bool.{true, decide, decide-iff}
 use mathlib.Core.Logic.{_↔_}
 use mathlib.Core.List.{List, flatMap, List·Memᴰ as In}
 use native.Mathlib.Omega.{arith}

@@ -1,11 +1,11 @@
 -- Laws of conflicts, dependences and edges.
-use Prim.Native.Nat.{ℕ, zero, suc, _+_, _-_, _≤_, _<_}
-use mathlib.Core.Path.{_≡_, refl, sym, _∙_, subst}
+use Prim.Native.Nat.{ℕ, suc, _+_, _-_, _≤_, _<_}
+use mathlib.Core.Path.{_≡_, sym, subst}
 use mathlib.Core.Logic.{_⊎_, inl, inr, ⊎-elim}
 use native.Mathlib.Decide.{decLt}
 use native.Mathlib.Omega.{arith}
-use Rattle.unroll.specs.Instances.{Before, earlier, within}
-use Rattle.unroll.specs.System.{System, Writes, Accesses, reading, writing}
+use Rattle.unroll.specs.Instances.{Before, earlier}
+use Rattle.unroll.specs.System.{System, Writes, Accesses, writing}
 use Rattle.unroll.specs.Edges.{Conflict, Unwritten, Dependence, Edge, rule, reuse}
 use Rattle.unroll.specs.Statement.{EdgeLaws}
 use Rattle.unroll.proofs.Instances.{before-pass, before-later, before-sooner, before-item}

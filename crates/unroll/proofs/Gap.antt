@@ -1,10 +1,8 @@
 -- The assumption on passes is needed: the system of specs/Gap.antt answers another word than its items in order, computed.
-use Prim.Native.Nat.{ℕ, zero, suc, _+_}
-use mathlib.Core.Path.{_≡_, refl, sym, _∙_}
-use mathlib.Core.Bool.{true, decide, decide-iff}
-use mathlib.Core.Logic.{ite, Dec·and}
+use mathlib.Core.Path.{_≡_, refl}
+use mathlib.Core.Bool.{decide, decide-iff}
+use mathlib.Core.Logic.{Dec·and}
 use mathlib.Core.List.{[]}
-use mathlib.Core.Option.{some}
 use native.Mathlib.Decide.{decLt, decLe, ℕ-discrete}
 use native.Mathlib.Omega.{arith}
 use Rattle.finite.specs.Lists.{mem}
@@ -12,7 +10,7 @@ use Rattle.finite.specs.Update.{put}
 use Rattle.finite.proofs.Tests.{true-or-false}
 use Rattle.finite.proofs.Decide.{dec-map, dec-imp, dec-sum, dec-then, dec-below, dec-below-suc, dec-some, dec-some-cons}
 use Rattle.unroll.specs.Sequential.{wordOn, execute, executeTo, storeOf, storeAt, word}
-use Rattle.unroll.specs.Machine.{start, opening, CanStart, answer, Decides, reply, run, accepted}
+use Rattle.unroll.specs.Machine.{start, opening, CanStart, answer, run, accepted}
 use Rattle.unroll.specs.Gap.{gap, Needed}
 use Rattle.unroll.proofs.LastWriter.{scan, scan-suc, last-same, last-next, last-far, last-writer}
 use Rattle.unroll.proofs.Decide.{dec-before, dec-writes, dec-accesses, dec-conflict, dec-last, dec-unwritten, dec-through, dec-dependence, dec-edge, dec-met, dec-ready, dec-start}

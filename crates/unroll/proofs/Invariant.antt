@@ -1,8 +1,8 @@
 -- What holds in every state that calls reach from the opening.
-use Prim.Native.Nat.{ℕ, zero, suc, _+_, _-_, _≤_, _<_}
-use mathlib.Core.Path.{_≡_, refl, sym, _∙_, ap, subst}
-use mathlib.Core.Bool.{true, false}
-use mathlib.Core.Logic.{_⊎_, inl, inr, ⊎-elim}
+use Prim.Native.Nat.{ℕ, suc, _+_, _≤_, _<_}
+use mathlib.Core.Path.{_≡_, sym, _∙_, ap, subst}
+use mathlib.Core.Bool.{false}
+use mathlib.Core.Logic.{⊎-elim}
 use native.Mathlib.Decide.{decLt}
 use native.Mathlib.Omega.{arith}
 use Rattle.finite.specs.Lists.{mem}
@@ -10,13 +10,13 @@ use Rattle.finite.specs.Update.{update}
 use Rattle.finite.proofs.Tests.{true-or-false, not-both}
 use Rattle.finite.proofs.Members.{map-ext}
 use Rattle.finite.proofs.Update.{update-ind, update-same, update-other, put-in, put-out}
-use Rattle.unroll.specs.Instances.{Before, earlier, within}
+use Rattle.unroll.specs.Instances.{Before}
 use Rattle.unroll.specs.System.{System, Writes, Accesses, reading, writing}
 use Rattle.unroll.specs.Sequential.{wordOn, storeAt, word}
-use Rattle.unroll.specs.Edges.{Conflict, Unwritten, Dependence, Edge}
-use Rattle.unroll.specs.Machine.{State, opening, Met, CanStart, CanFinish, startState, finishState}
+use Rattle.unroll.specs.Edges.{Conflict, Unwritten, Edge}
+use Rattle.unroll.specs.Machine.{State, opening, CanStart, CanFinish, startState, finishState}
 use Rattle.unroll.specs.Statement.{WritersMade}
-use Rattle.unroll.proofs.Instances.{before-pass, before-item, before-first, before-suc-cases, before-or-after, before-suc, before-pred}
+use Rattle.unroll.proofs.Instances.{before-item, before-first, before-suc-cases, before-or-after, before-suc, before-pred}
 use Rattle.unroll.proofs.Sequential.{store-written, store-open, store-stretch}
 use Rattle.unroll.proofs.LastWriter.{Last, clear, writer, last-writer}
 use Rattle.unroll.proofs.Edges.{conflict-written, conflict-writes, dependence-edge}
@@ -63,7 +63,7 @@ module _ (S : System) where
   start-waited s a x q b lb cs u k f m = go (dependence-edge S q b (s .finished a) a (record { from = lb; to = cs .exists; place = x; conflict = k; order = u; between = f }))
     where
       go : (d : ℕ) × (q + d ≡ s .finished a) × Edge S b a d → q < s .finished b
-      go (d, h, e) = ⊎-elim (λ (t : q < s .finished b). t) (λ (t : S .passes b ≤ q). absurd (omega arith)) (cs .ready b d q e (omega (arith, cs .idle)))
+      go (d, h, e) = ⊎-elim (λ t. t) (λ t. absurd (omega (arith, t))) (cs .ready b d q e (omega (arith, cs .idle)))
 
   -- so all that conflicts and comes before has: the last writer between served it
   start-served : WritersMade S → (s : State) (a : ℕ) → Invariant s → CanStart S s a → Served s (s .finished a) a
@@ -137,7 +137,7 @@ module _ (S : System) where
       Written (finishState S s a) x q c → Fresh (finishState S s a) x q c → (finishState S s a) .places x ≡ storeAt S q c x
   unfolding finishState
   finish-other s a i x q c w l f g =
-      put-out (S .writes a) (s .held a) (s .places) x w
+      put-out (S .writes a) _ _ x w
       ∙ i .stored x q c l
       (λ r b lb u m t. rw (← (update-other (s .finished) a (suc (s .finished a)) b (λ e. not-both (subst (λ (k : ℕ). Writes S k x) e t) w))) (f r b lb u m t))
       (λ r b lb u t d. g r b lb u t (omega (arith, finish-finished s a b)))
@@ -169,7 +169,7 @@ module _ (S : System) where
       Written (finishState S s a) x q c → Fresh (finishState S s a) x q c → (finishState S s a) .places x ≡ storeAt S q c x
   unfolding finishState
   finish-own s a i cf x q c w l f g =
-      put-in (S .writes a) (s .held a) (s .places) x w
+      put-in (S .writes a) _ _ x w
       ∙ i .holds a (cf .exists) (cf .running)
       ∙ sym
       (store-stretch

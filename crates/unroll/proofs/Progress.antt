@@ -1,14 +1,14 @@
 -- While an item has a pass left, some call is accepted: of the items with a pass left, the first one by its next pass, then by its number.
 use Prim.Native.Nat.{ℕ, zero, suc, _+_, _≤_, _<_}
-use mathlib.Core.Path.{_≡_, refl, sym}
-use mathlib.Core.Logic.{_⊎_, inl, inr, ⊎-elim}
+use mathlib.Core.Path.{_≡_, refl}
+use mathlib.Core.Logic.{_⊎_, inl, inr}
 use native.Mathlib.Decide.{decLt, decLe}
 use native.Mathlib.Omega.{arith}
 use Rattle.finite.proofs.Below.{below-suc}
 use Rattle.unroll.specs.Instances.{Before, earlier, within}
 use Rattle.unroll.specs.System.{System}
 use Rattle.unroll.specs.Edges.{Edge}
-use Rattle.unroll.specs.Machine.{State, Call, start, finish, Met, CanStart, Can}
+use Rattle.unroll.specs.Machine.{State, Call, start, finish, Met, Can}
 use Rattle.unroll.specs.Statement.{End}
 use Rattle.unroll.proofs.Instances.{before-pass, before-item, before-le}
 use Rattle.unroll.proofs.Edges.{edge-from, edge-within}

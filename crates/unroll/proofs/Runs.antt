@@ -1,10 +1,10 @@
 -- Lists of calls: what a call is answered, the states that are reached, and what their counts show.
-use Prim.Native.Nat.{ℕ, zero, suc, _+_, _≤_, _<_}
+use Prim.Native.Nat.{ℕ, suc, _+_, _≤_, _<_}
 use mathlib.Core.Path.{_≡_, refl, sym, _∙_, ap}
 use mathlib.Core.Bool.{Bool, true, false, cond}
 use mathlib.Core.Logic.{ite, if-pos}
 use mathlib.Core.List.{List, [], _∷_, _++_}
-use mathlib.Core.Option.{Option, none, some, Option·some-injective, Option·none-ne-some}
+use mathlib.Core.Option.{none, some, Option·some-injective, Option·none-ne-some}
 use native.Mathlib.Omega.{arith}
 use borrow.Author.Tests.{eqb-true}
 use lib.Dec.{eqb}
@@ -83,8 +83,11 @@ module _ (S : System) (can : Decides S) where
   unfolding run accepted
   shown-run c s [] = omega arith
   shown-run c s (d ∷ l) =
-      omega (arith, shown-run c (step S can s d) l,
-      step-ind S can (λ t n. shown t c ≡ shown s c + n) s d (cond (alike c d) 1 0) (λ h. shown-after S s c d) (omega arith))
+      omega (
+        arith,
+        shown-run c (step S can s d) l,
+        step-ind S can (λ t n. shown t c ≡ shown s c + n) s d (cond (alike c d) 1 0) (λ h. shown-after S s c d) (omega arith),
+      )
 
   shown-opening : (c : Call) → shown (opening S) c ≡ 0
   unfolding opening

@@ -1,8 +1,7 @@
 -- What an instance leaves in the store, and that a stretch of instances with no made writer of a place leaves it.
-use Prim.Native.Nat.{ℕ, zero, suc, _+_, _≤_, _<_}
+use Prim.Native.Nat.{ℕ, zero, suc, _≤_, _<_}
 use mathlib.Core.Path.{_≡_, refl, sym, _∙_, ap}
-use mathlib.Core.Bool.{true}
-use mathlib.Core.Logic.{⊎-elim, ite, if-pos, if-neg}
+use mathlib.Core.Logic.{⊎-elim, if-pos, if-neg}
 use native.Mathlib.Decide.{decLt}
 use native.Mathlib.Omega.{arith}
 use Rattle.finite.specs.Lists.{mem}
