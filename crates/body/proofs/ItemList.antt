@@ -169,7 +169,7 @@ module _ (B : Body) where
   transfers-sorted F i l =
       sorted-flatMap (λ (g h : ℕ). position g (B .writes i) < position h (B .writes i)) (λ (x y : Transfer). Less (transferKey x) (transferKey y))
       (λ g. gather (B .ranks) (transferred B i g) (transfer i g)) (B .writes i)
-      (sorted-distinct (B .writes i) (F .once i l))
+      (sorted-distinct (B .writes i) (F .written-once i l))
       (λ g m. sorted-gather (λ (x y : Transfer). Less (transferKey x) (transferKey y)) (B .ranks) (transferred B i g) (transfer i g) (λ j k s. inr (refl, inl s)))
       (λ g h m n s x y u v. between g h s x y (in-gather-from (B .ranks) (transferred B i g) (transfer i g) x u) (in-gather-from (B .ranks) (transferred B i h) (transfer i h) y v))
     where
@@ -217,8 +217,8 @@ module _ (B : Body) where
   ordered-items : Fits B → (a b : ℕ) (x y : Item) → a < b → b < itemCount B → itemAt B a ≡ x → itemAt B b ≡ y → Precedes x y
   ordered-items F a b x y l lb e f = subst₂ Precedes e f (ordered F a b l lb)
 
-  pub once : Fits B → (a b : ℕ) → a < itemCount B → b < itemCount B → itemAt B a ≡ itemAt B b → a ≡ b
-  once F a b la lb e =
+  pub listed-once : Fits B → (a b : ℕ) → a < itemCount B → b < itemCount B → itemAt B a ≡ itemAt B b → a ≡ b
+  listed-once F a b la lb e =
       elim (decLt a b) [
         | yes l ↦ absurd (less-irreflexive (key B (itemAt B b)) (ordered-items F a b (itemAt B b) (itemAt B b) l lb e refl))
         | no l ↦ elim (decLt b a) [

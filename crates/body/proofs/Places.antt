@@ -35,9 +35,9 @@ module _ (B : Body) where
   unfolding copy
   copy-below q g l m = let h : suc q * B .regions ≤ B .ranks * B .regions = mul-le-mul-right (B .regions) l in omega (arith, suc-mul q (B .regions))
 
-  pub copy-opening : (q g : ℕ) → q < B .ranks → g < B .regions → initial B (copy B q g) ≡ B .start g
+  pub copy-opening : (q g : ℕ) → q < B .ranks → g < B .regions → initial B (copy B q g) ≡ B .starting g
   unfolding initial
-  copy-opening q g l m = rw (lt-ltb (copy B q g) (B .ranks * B .regions) (copy-below q g l m)) (ap (B .start) (copy-region q g m))
+  copy-opening q g l m = rw (lt-ltb (copy B q g) (B .ranks * B .regions) (copy-below q g l m)) (ap (B .starting) (copy-region q g m))
 
   pub copy-no-slot : Fits B → (q g a : ℕ) → q < B .ranks → g < B .regions → copy B q g ≡ slot a → ⊥
   unfolding slot
@@ -53,11 +53,11 @@ module _ (B : Body) where
   task-access F a i x la e (reading h) = go (mem-map-from (copy B (B .rank i)) x (B .reads i) (subst (λ (y : Item). mem x (readsOf B a y) ≡ true) e h))
     where
       go : (g : ℕ) × (mem g (B .reads i) ≡ true) × (x ≡ copy B (B .rank i) g) → (g : ℕ) × (g < B .regions) × (x ≡ copy B (B .rank i) g)
-      go (g, m, f) = (g, F .reading i g (tasks-listed B i .0 (a, la, e)) m, f)
+      go (g, m, f) = (g, F .reads-below i g (tasks-listed B i .0 (a, la, e)) m, f)
   task-access F a i x la e (writing h) = go (mem-map-from (copy B (B .rank i)) x (B .writes i) (subst (λ (y : Item). mem x (writesOf B a y) ≡ true) e h))
     where
       go : (g : ℕ) × (mem g (B .writes i) ≡ true) × (x ≡ copy B (B .rank i) g) → (g : ℕ) × (g < B .regions) × (x ≡ copy B (B .rank i) g)
-      go (g, m, f) = (g, F .writing i g (tasks-listed B i .0 (a, la, e)) m, f)
+      go (g, m, f) = (g, F .writes-below i g (tasks-listed B i .0 (a, la, e)) m, f)
 
   pub one-rank : Fits B → (a b d i j : ℕ) → Edge (system B) a b d → itemAt B a ≡ task i → itemAt B b ≡ task j → B .rank i ≡ B .rank j
   one-rank F a b d i j (reuse l s h) e f = let t : task i ≡ task j = sym e ∙ (ap (itemAt B) s ∙ f) in let z : i ≡ j = cc in ap (B .rank) z

@@ -86,7 +86,7 @@ module _ (B : Body) (F : Fits B) (p : ℕ) (lp : p < B .passes) (t : ℕ) (lt : 
       word-at B p k (task t) e
       ∙ ap (B .compute t) (map-map (storeAt (system B) p k) (copy B (B .rank t)) (B .reads t)
       ∙ map-ext (λ g. storeAt (system B) p k (copy B (B .rank t) g)) (cellsAt B p t) (B .reads t)
-      (λ g m. r .copies (B .rank t) g (F .placed t lt) (F .reading t g lt m) (read-up-to-date B p t g lt m)))
+      (λ g m. r .copies (B .rank t) g (F .rank-below t lt) (F .reads-below t g lt m) (read-up-to-date B p t g lt m)))
 
   task-own : (k : ℕ) → itemAt B k ≡ task t → Before-task B p t k → (g : ℕ) → mem g (B .writes t) ≡ true → storeAt (system B) p (suc k) (copy B (B .rank t) g) ≡ loopWord B p t
   unfolding writesOf
@@ -98,7 +98,7 @@ module _ (B : Body) (F : Fits B) (p : ℕ) (lp : p < B .passes) (t : ℕ) (lt : 
   task-other k e q g l m = store-out B p k (task t) (copy B q g) e (λ w. clash (mem-map-from (copy B (B .rank t)) (copy B q g) (B .writes t) w))
     where
       clash : (h : ℕ) × (mem h (B .writes t) ≡ true) × (copy B q g ≡ copy B (B .rank t) h) → ⊥
-      clash (h, w, i) = not-both (subst (λ (z : ℕ). mem z (B .writes t) ≡ true) (sym (copies-apart B q g (B .rank t) h l (F .writing t h lt w) i .1)) w) m
+      clash (h, w, i) = not-both (subst (λ (z : ℕ). mem z (B .writes t) ≡ true) (sym (copies-apart B q g (B .rank t) h l (F .writes-below t h lt w) i .1)) w) m
 
   after-task : (k : ℕ) → itemAt B k ≡ task t → Before-task B p t k → Behind-task B p t (transfersOf B t) (suc k)
   after-task k e r =
@@ -157,10 +157,10 @@ module _ (B : Body) (F : Fits B) (p : ℕ) (lp : p < B .passes) (t : ℕ) (lt : 
         record {
           own = λ h w. elim (ℕ-discrete (copy B (B .rank t) h) (copy B q g)) [
             | yes z ↦ ap (storeAt (system B) p (suc (suc k))) z ∙ receive-copy
-            | no z ↦ receive-other (B .rank t) h (F .placed t lt) (F .writing t h lt w) z ∙ M .own h w
+            | no z ↦ receive-other (B .rank t) h (F .rank-below t lt) (F .writes-below t h lt w) z ∙ M .own h w
           ];
           copies = λ r h lr lh v. elim (ℕ-discrete (copy B r h) (copy B q g)) [
-            | yes z ↦ inl (ap (storeAt (system B) p (suc (suc k))) z ∙ (receive-copy ∙ (sym (cells-wrote B p t g m) ∙ ap (cellsAt B p (suc t)) (sym (copies-apart B r h q g lh (F .writing t g lt m) z .1)))))
+            | yes z ↦ inl (ap (storeAt (system B) p (suc (suc k))) z ∙ (receive-copy ∙ (sym (cells-wrote B p t g m) ∙ ap (cellsAt B p (suc t)) (sym (copies-apart B r h q g lh (F .writes-below t g lt m) z .1)))))
             | no z ↦ ⊎-elim (λ w. inl (receive-other r h lr lh z ∙ w)) (λ w. inr (left r h z (in-cases w))) (M .copies r h lr lh v)
           ];
           words = words-next B p (suc k) (receive t g q) er receive-word (words-next B p k (send t g q) es send-word (M .words));

@@ -23,7 +23,7 @@ use Rattle.body.specs.Items.{writer, itemCount, itemAt}
 use Rattle.body.specs.Places.{copy, system, resultFrom, resultOf}
 use Rattle.body.specs.Statement.{Meaning, InOrder, Computes, Laws}
 use Rattle.body.proofs.Writers.{last-writer, no-writer, sources, last-some, last-none}
-use Rattle.body.proofs.ItemList.{tasks-listed, sends-listed, receives-listed, ordered, once, send-then, receive-after}
+use Rattle.body.proofs.ItemList.{tasks-listed, sends-listed, receives-listed, ordered, listed-once, send-then, receive-after}
 use Rattle.body.proofs.Places.{slots-apart, copies-apart, copy-no-slot, copy-opening, slot-opening, one-rank}
 use Rattle.body.proofs.Holders.{holder, holder-start, up-to-date-own}
 use Rattle.body.proofs.Simulation.{before-pass, words}
@@ -34,16 +34,16 @@ module _ (B : Body) where
   tasks-unwritten zero g c f = refl
   tasks-unwritten (suc t) g c f = put-out (B .writes t) _ _ g (f t (omega arith)) ∙ tasks-unwritten t g c (λ k l. f k (omega arith))
 
-  cells-unwritten : (p g : ℕ) → ((k : ℕ) → k < B .tasks → mem g (B .writes k) ≡ false) → cellsOf B p g ≡ B .start g
+  cells-unwritten : (p g : ℕ) → ((k : ℕ) → k < B .tasks → mem g (B .writes k) ≡ false) → cellsOf B p g ≡ B .starting g
   unfolding cellsOf
   cells-unwritten zero g f = refl
   cells-unwritten (suc p) g f = tasks-unwritten (B .tasks) g (cellsOf B p) f ∙ cells-unwritten p g f
 
-  final-unwritten : (g : ℕ) → lastBefore B (B .tasks) g ≡ none → loopFinal B g ≡ B .start g
+  final-unwritten : (g : ℕ) → lastBefore B (B .tasks) g ≡ none → loopFinal B g ≡ B .starting g
   unfolding loopFinal
   final-unwritten g e = cells-unwritten (B .passes) g (last-none B (B .tasks) g e)
 
-  final-no-pass : (g : ℕ) → B .passes ≡ 0 → loopFinal B g ≡ B .start g
+  final-no-pass : (g : ℕ) → B .passes ≡ 0 → loopFinal B g ≡ B .starting g
   unfolding loopFinal cellsOf
   final-no-pass g e = ap (λ (p : ℕ). cellsOf B p g) e
 
@@ -52,7 +52,7 @@ module _ (B : Body) where
     final-written : (g j : ℕ) → g < B .regions → lastBefore B (B .tasks) g ≡ some j → storeAt (system B) (B .passes) 0 (copy B (B .rank j) g) ≡ loopFinal B g
     unfolding loopFinal cellsAt tasksRun
     final-written g j lg e =
-        before-pass B F (B .passes) (omega arith) .copies (B .rank j) g (F .placed j (last-some B (B .tasks) g j e .below)) lg
+        before-pass B F (B .passes) (omega arith) .copies (B .rank j) g (F .rank-below j (last-some B (B .tasks) g j e .below)) lg
         (⊎-elim
         (λ (h : holder B (B .passes) 0 g ≡ none). rw h)
         (λ (h : holder B (B .passes) 0 g ≡ lastBefore B (B .tasks) g). rw (h ∙ e) (up-to-date-own B j g))
@@ -66,12 +66,12 @@ module _ (B : Body) where
         record {
           last-writer = last-writer B;
           no-writer = no-writer B;
-          source = sources B;
+          sources = sources B;
           tasks-listed = tasks-listed B;
           sends-listed = sends-listed B;
           receives-listed = receives-listed B;
           ordered = ordered B F;
-          once = once B F;
+          listed-once = listed-once B F;
           send-then = send-then B F;
           receive-after = receive-after B F;
           copies-apart = copies-apart B;
@@ -104,7 +104,7 @@ module _ (B : Body) where
       results l end g lg = from (lastBefore B (B .tasks) g) refl
         where
           made : (j : ℕ) → lastBefore B (B .tasks) g ≡ some j → (b : Bool) → eqb (B .passes) 0 ≡ b →
-              cond b (B .start g) ((reached (system B) can l) .places (copy B (B .rank j) g)) ≡ loopFinal B g
+              cond b (B .starting g) ((reached (system B) can l) .places (copy B (B .rank j) g)) ≡ loopFinal B g
           made j e true z = sym (final-no-pass g (eqb-true (B .passes) 0 z))
           made j e false z = in-any-order .final l end (B .passes) (λ a la. omega arith) (copy B (B .rank j) g) ∙ final-written g j lg e
 

@@ -1,10 +1,10 @@
 -- The paper's example of two ranks, computed.
 use Prim.Native.Nat.{ℕ, zero, suc, _<_}
-use mathlib.Core.Path.{_≡_, refl, subst}
+use mathlib.Core.Path.{_≡_, refl, _∙_, ap, subst}
 use mathlib.Core.Bool.{true, decide}
 use mathlib.Core.Logic.{_↔_, ⊎-elim, Dec·and}
 use mathlib.Core.List.{List, [], _∷_, map, flatMap, List·Memᴰ as In}
-use mathlib.Core.Option.{Option, none, some, orElse}
+use mathlib.Core.Option.{Option, orElse}
 use native.Mathlib.Decide.{decLt, decLe, ℕ-discrete}
 use native.Mathlib.Omega.{arith}
 use Rattle.finite.specs.Below.{anyBelow, sumBelow}
@@ -15,17 +15,18 @@ use Rattle.finite.proofs.Decide.{dec-map, dec-imp, dec-sum, dec-then, dec-below
 use Rattle.finite.proofs.Members.{mem-one, mem-cases}
 use Rattle.unroll.specs.Sequential.{wordOn, execute, executeTo, storeOf, storeAt, word}
 use Rattle.unroll.specs.Edges.{Edge}
-use Rattle.unroll.specs.Machine.{State, Call, start, finish, opening, startState, finishState, reply, step}
+use Rattle.unroll.specs.Machine.{State, Call, opening, startState, finishState, reply, step, run, replies}
 use Rattle.unroll.specs.Statement.{allSteps}
 use Rattle.unroll.proofs.LastWriter.{scan, scan-suc, last-same, last-next, last-far, last-writer}
 use Rattle.unroll.proofs.Decide.{dec-before, dec-writes, dec-accesses, dec-conflict, dec-last, dec-unwritten, dec-through, dec-dependence, dec-edge, dec-met, dec-ready, dec-start, dec-finish, decides}
+use Rattle.unroll.proofs.Local.{same-replies, same-run}
 use Rattle.unroll.proofs.EdgeList.{edgesBetween, edges, edges-exactly}
 use Rattle.body.specs.Body.{Fits}
 use Rattle.body.specs.Loop.{taskWord, tasksRun, cellsOf, cellsAt, loopWord, loopFinal}
 use Rattle.body.specs.Transfers.{lastBefore, source, wanted, transferred, transfersOf}
 use Rattle.body.specs.Items.{task, send, receive, itemList, itemAt}
-use Rattle.body.specs.Places.{slot, copy, readsOf, writesOf, computeOf, initial, system}
-use Rattle.body.specs.TwoRanks.{twoRanks, tenEdges, TwoRanks}
+use Rattle.body.specs.Places.{slot, copy, readsOf, writesOf, computeOf, initial, system, resultOf}
+use Rattle.body.specs.TwoRanks.{twoRanks, tenEdges, trace, calls, TwoRanks}
 
 regions-below : (i g : ℕ) → i < 2 → mem g (twoRanks .reads i) ≡ true → g < 2
 regions-below zero g l m = omega (arith, mem-one g 0 m)
@@ -49,7 +50,7 @@ written-once (suc zero) l = refl
 written-once (suc (suc i)) l = absurd (omega arith)
 
 fits : Fits twoRanks
-fits = record { placed = rank-below; reading = regions-below; writing = written-below; once = written-once; room = omega arith }
+fits = record { rank-below = rank-below; reads-below = regions-below; writes-below = written-below; written-once = written-once; room = omega arith }
 
 items : itemList twoRanks ≡ task 0 ∷ send 0 0 1 ∷ receive 0 0 1 ∷ task 1 ∷ []
 unfolding itemList flatMap range gather transfersOf transferred wanted anyBelow source orElse lastBefore mem
@@ -78,69 +79,25 @@ finals : map (loopFinal twoRanks) (0 ∷ 1 ∷ []) ≡ 7 ∷ 13 ∷ []
 unfolding taskWord tasksRun cellsOf loopFinal put mem
 finals = refl
 
-pub two-ranks : TwoRanks
-two-ranks = record { fits = fits; items = items; edges = ten-edges; steps = sixteen; words = words; loop-words = loop-words; finals = finals }
-
--- what a list of calls is answered
-replies : State → List Call → List (Option ℕ)
-replies s [] = []
-replies s (c ∷ l) = reply (system twoRanks) (decides (system twoRanks)) s c ∷ replies (step (system twoRanks) (decides (system twoRanks)) s c) l
-
--- calls that are refused among the first, then both passes, the task of rank 0 running ahead
-calls : List Call
-calls =
-    start 3
-    ∷ finish 0
-    ∷ start 0
-    ∷ start 0
-    ∷ finish 0
-    ∷ start 0
-    ∷ start 1
-    ∷ finish 1
-    ∷ start 0
-    ∷ finish 0
-    ∷ start 1
-    ∷ start 2
-    ∷ finish 2
-    ∷ start 3
-    ∷ start 1
-    ∷ finish 1
-    ∷ start 2
-    ∷ finish 3
-    ∷ start 2
-    ∷ finish 2
-    ∷ start 3
-    ∷ finish 3
-    ∷ start 3
-    ∷ start 4
-    ∷ []
-
-answered :
-    replies (opening (system twoRanks)) calls
-    ≡ none
-    ∷ none
-    ∷ some 6
-    ∷ none
-    ∷ some 6
-    ∷ none
-    ∷ some 6
-    ∷ some 6
-    ∷ some 7
-    ∷ some 7
-    ∷ none
-    ∷ some 6
-    ∷ some 6
-    ∷ some 6
-    ∷ some 7
-    ∷ some 7
-    ∷ none
-    ∷ some 6
-    ∷ some 7
-    ∷ some 7
-    ∷ some 13
-    ∷ some 13
-    ∷ none
-    ∷ none
-    ∷ []
-unfolding calls replies reply step opening startState finishState wordOn update put itemList flatMap range gather transfersOf transferred wanted anyBelow source orElse lastBefore mem itemAt slot copy readsOf writesOf computeOf initial Dec·and true-or-false decLt decLe ℕ-discrete dec-map dec-imp dec-sum dec-then dec-below dec-below-suc dec-some dec-some-cons scan scan-suc last-same last-next last-far last-writer dec-before dec-writes dec-accesses dec-conflict dec-last dec-unwritten dec-through dec-dependence dec-edge dec-met dec-ready dec-start dec-finish
+-- with the test of acceptance that computes, and so with every other
+answered : replies (system twoRanks) (decides (system twoRanks)) (opening (system twoRanks)) calls ≡ map (λ (r : Call × Option ℕ). r .1) trace
+unfolding replies reply step opening startState finishState wordOn update put itemList flatMap range gather transfersOf transferred wanted anyBelow source orElse lastBefore mem itemAt slot copy readsOf writesOf computeOf initial Dec·and true-or-false decLt decLe ℕ-discrete dec-map dec-imp dec-sum dec-then dec-below dec-below-suc dec-some dec-some-cons scan scan-suc last-same last-next last-far last-writer dec-before dec-writes dec-accesses dec-conflict dec-last dec-unwritten dec-through dec-dependence dec-edge dec-met dec-ready dec-start dec-finish
 answered = refl
+
+results : map (resultOf twoRanks (run (system twoRanks) (decides (system twoRanks)) (opening (system twoRanks)) calls)) (0 ∷ 1 ∷ []) ≡ 7 ∷ 13 ∷ []
+unfolding resultOf run step opening startState finishState wordOn update put itemList flatMap range gather transfersOf transferred wanted anyBelow source orElse lastBefore mem itemAt slot copy readsOf writesOf computeOf initial Dec·and true-or-false decLt decLe ℕ-discrete dec-map dec-imp dec-sum dec-then dec-below dec-below-suc dec-some dec-some-cons scan scan-suc last-same last-next last-far last-writer dec-before dec-writes dec-accesses dec-conflict dec-last dec-unwritten dec-through dec-dependence dec-edge dec-met dec-ready dec-start dec-finish
+results = refl
+
+pub two-ranks : TwoRanks
+two-ranks =
+    record {
+      fits = fits;
+      items = items;
+      edges = ten-edges;
+      all-steps = sixteen;
+      words = words;
+      loop-words = loop-words;
+      finals = finals;
+      answered = λ can. same-replies (system twoRanks) can (decides (system twoRanks)) (opening (system twoRanks)) calls ∙ answered;
+      results = λ can. ap (λ (s : State). map (resultOf twoRanks s) (0 ∷ 1 ∷ [])) (same-run (system twoRanks) can (decides (system twoRanks)) (opening (system twoRanks)) calls) ∙ results;
+    }

@@ -177,7 +177,7 @@ module _ (B : Body) where
     pub target : ℕ
     pub same : x ≡ transfer i region target
     pub written : mem region (B .writes i) ≡ true
-    pub exists : target < B .ranks
+    pub in-range : target < B .ranks
     pub holds : transferred B i region target ≡ true
 
   pub transfer-from : (i : ℕ) (x : Transfer) → In x (transfersOf B i) → Transferred i x
@@ -185,7 +185,7 @@ module _ (B : Body) where
   transfer-from i x h = outer (in-flatMap-from (λ g. gather (B .ranks) (transferred B i g) (transfer i g)) x (B .writes i) h)
     where
       inner : (g : ℕ) → In g (B .writes i) → (q : ℕ) × (q < B .ranks) × (transferred B i g q ≡ true) × (x ≡ transfer i g q) → Transferred i x
-      inner g m (q, l, t, e) = record { region = g; target = q; same = e; written = in-mem g (B .writes i) m; exists = l; holds = t }
+      inner g m (q, l, t, e) = record { region = g; target = q; same = e; written = in-mem g (B .writes i) m; in-range = l; holds = t }
 
       outer : (g : ℕ) × In g (B .writes i) × In x (gather (B .ranks) (transferred B i g) (transfer i g)) → Transferred i x
       outer (g, m, k) = inner g m (in-gather-from (B .ranks) (transferred B i g) (transfer i g) x k)
@@ -204,10 +204,10 @@ module _ (B : Body) where
           (record {
             below = l;
             writes = r .written;
-            exists = r .exists;
+            in-range = r .in-range;
             other = t .0;
             reader = wanted-reader j (r .region) (r .target) (t .1);
           })
 
   pub transfer-is : (i g q : ℕ) → IsTransfer B i g q → In (transfer i g q) (transfersOf B i)
-  transfer-is i g q t = transfer-in i g q (t .writes) (t .exists) (wanted-transferred i g q (t .other) (reader-wanted i g q (t .reader .0) (t .reader .1)))
+  transfer-is i g q t = transfer-in i g q (t .writes) (t .in-range) (wanted-transferred i g q (t .other) (reader-wanted i g q (t .reader .0) (t .reader .1)))

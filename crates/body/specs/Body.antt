@@ -17,12 +17,17 @@ pub record Body : Type 0 where
   pub writes : ℕ → List ℕ
   pub compute : ℕ → List ℕ → ℕ
   -- the starting value of a region
-  pub start : ℕ → ℕ
+  pub starting : ℕ → ℕ
 
--- what reading sees to: ranks and regions within their numbers, no region written twice by one task, and copies below the slots
+-- slots are the places from here on, copies those below: 16 ranks of 128 regions
+abbrev pub firstSlot : ℕ
+firstSlot = 2048
+
+-- the part of what reading sees to that is needed here: ranks and regions within their numbers, no region written twice by one
+-- task, and no more copies than places for them
 pub record Fits (B : Body) : Type 0 where
-  pub placed : (i : ℕ) → i < B .tasks → B .rank i < B .ranks
-  pub reading : (i g : ℕ) → i < B .tasks → mem g (B .reads i) ≡ true → g < B .regions
-  pub writing : (i g : ℕ) → i < B .tasks → mem g (B .writes i) ≡ true → g < B .regions
-  pub once : (i : ℕ) → i < B .tasks → distinct (B .writes i) ≡ true
-  pub room : B .ranks * B .regions ≤ 2048
+  pub rank-below : (i : ℕ) → i < B .tasks → B .rank i < B .ranks
+  pub reads-below : (i g : ℕ) → i < B .tasks → mem g (B .reads i) ≡ true → g < B .regions
+  pub writes-below : (i g : ℕ) → i < B .tasks → mem g (B .writes i) ≡ true → g < B .regions
+  pub written-once : (i : ℕ) → i < B .tasks → distinct (B .writes i) ≡ true
+  pub room : B .ranks * B .regions ≤ firstSlot

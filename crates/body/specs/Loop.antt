@@ -17,7 +17,7 @@ module _ (B : Body) where
 
   -- the cells before pass p
   unfoldable pub cellsOf : ℕ → ℕ → ℕ
-  cellsOf zero = B .start
+  cellsOf zero = B .starting
   cellsOf (suc p) = tasksRun (B .tasks) (cellsOf p)
 
   -- the cells before task t in pass p, and the task's word there

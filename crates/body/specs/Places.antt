@@ -7,13 +7,13 @@ use lib.Dec.{eqb, ltb}
 use lib.ListN.{getD}
 use Rattle.unroll.specs.System.{System}
 use Rattle.unroll.specs.Machine.{State}
-use Rattle.body.specs.Body.{Body}
+use Rattle.body.specs.Body.{Body, firstSlot}
 use Rattle.body.specs.Transfers.{lastBefore}
 use Rattle.body.specs.Items.{Item, task, send, receive, itemCount, itemAt}
 
 -- the slot of the transfer whose send is item a
 unfoldable pub slot : ℕ → ℕ
-slot a = 2048 + a
+slot a = firstSlot + a
 
 module _ (B : Body) where
   -- rank q's copy of region g
@@ -40,7 +40,7 @@ module _ (B : Body) where
 
   -- at the opening every copy holds its starting value, and every slot 0
   unfoldable pub initial : ℕ → ℕ
-  initial x = cond (ltb x (B .ranks * B .regions)) (B .start (x % B .regions)) 0
+  initial x = cond (ltb x (B .ranks * B .regions)) (B .starting (x % B .regions)) 0
 
   abbrev pub system : System
   system =
@@ -55,8 +55,8 @@ module _ (B : Body) where
 
   -- a region's result (paper 01, "Steps"): the copy on the rank of its last writer; with no writer or no pass, its starting value
   abbrev pub resultFrom : State → ℕ → Option ℕ → ℕ
-  resultFrom s g none = B .start g
-  resultFrom s g (some j) = cond (eqb (B .passes) 0) (B .start g) (s .places (copy (B .rank j) g))
+  resultFrom s g none = B .starting g
+  resultFrom s g (some j) = cond (eqb (B .passes) 0) (B .starting g) (s .places (copy (B .rank j) g))
 
   unfoldable pub resultOf : State → ℕ → ℕ
   resultOf s g = resultFrom s g (lastBefore B (B .tasks) g)

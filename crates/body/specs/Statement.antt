@@ -30,7 +30,8 @@ module _ (B : Body) where
     pub writes : mem g (B .writes j) ≡ true
     pub last : (k : ℕ) → j < k → k < t → mem g (B .writes k) ≡ false
 
-  -- task j in pass p writes g before task t in pass 1, and no task instance in between does
+  -- task j in pass p, which is 0 or 1, writes g before task t in pass 1, the first that has a pass before it, and no task instance in
+  -- between does
   pub record Source (t g p j : ℕ) : Type 0 where
     pub below : j < B .tasks
     pub writes : mem g (B .writes j) ≡ true
@@ -48,7 +49,7 @@ module _ (B : Body) where
   pub record IsTransfer (i g q : ℕ) : Type 0 where
     pub below : i < B .tasks
     pub writes : mem g (B .writes i) ≡ true
-    pub exists : q < B .ranks
+    pub in-range : q < B .ranks
     pub other : q ≡ B .rank i → ⊥
     pub reader : (t : ℕ) × Reader i g q t
 
@@ -65,21 +66,20 @@ module _ (B : Body) where
   pub record Meaning : Type 0 where
     pub last-writer : (t g j : ℕ) → (lastBefore B t g ≡ some j) ↔ LastWriter t g j
     pub no-writer : (t g : ℕ) → (lastBefore B t g ≡ none) ↔ ((k : ℕ) → k < t → mem g (B .writes k) ≡ false)
-    pub source : (t g j : ℕ) → t < B .tasks → (source B t g ≡ some j) ↔ ((p : ℕ) × Source t g p j)
-    -- the items, once each and in order
+    pub sources : (t g j : ℕ) → t < B .tasks → (source B t g ≡ some j) ↔ ((p : ℕ) × Source t g p j)
+    -- the items and their order; that each stands once, and a receive right after its send, are consequences
     pub tasks-listed : (i : ℕ) → Listed (task i) ↔ (i < B .tasks)
     pub sends-listed : (i g q : ℕ) → Listed (send i g q) ↔ IsTransfer i g q
     pub receives-listed : (i g q : ℕ) → Listed (receive i g q) ↔ IsTransfer i g q
     pub ordered : (a b : ℕ) → a < b → b < itemCount B → Less (key (itemAt B a)) (key (itemAt B b))
-    pub once : (a b : ℕ) → a < itemCount B → b < itemCount B → itemAt B a ≡ itemAt B b → a ≡ b
-    -- a receive stands right after its send
+    pub listed-once : (a b : ℕ) → a < itemCount B → b < itemCount B → itemAt B a ≡ itemAt B b → a ≡ b
     pub send-then : (a i g q : ℕ) → a < itemCount B → itemAt B a ≡ send i g q → (suc a < itemCount B) × (itemAt B (suc a) ≡ receive i g q)
     pub receive-after : (a i g q : ℕ) → a < itemCount B → itemAt B a ≡ receive i g q → (b : ℕ) × (a ≡ suc b) × (itemAt B b ≡ send i g q)
     -- copies and slots are places apart, and hold what the opening sets
     pub copies-apart : (q g r h : ℕ) → g < B .regions → h < B .regions → copy B q g ≡ copy B r h → (q ≡ r) × (g ≡ h)
     pub slots-apart : (a b : ℕ) → slot a ≡ slot b → a ≡ b
     pub copy-no-slot : (q g a : ℕ) → q < B .ranks → g < B .regions → copy B q g ≡ slot a → ⊥
-    pub copy-opening : (q g : ℕ) → q < B .ranks → g < B .regions → initial B (copy B q g) ≡ B .start g
+    pub copy-opening : (q g : ℕ) → q < B .ranks → g < B .regions → initial B (copy B q g) ≡ B .starting g
     pub slot-opening : (a : ℕ) → initial B (slot a) ≡ 0
     -- no edge between tasks on two ranks, whatever regions they name
     pub one-rank : (a b d i j : ℕ) → Edge (system B) a b d → itemAt B a ≡ task i → itemAt B b ≡ task j → B .rank i ≡ B .rank j
@@ -88,13 +88,13 @@ module _ (B : Body) where
   pub record InOrder : Type 0 where
     pub words : (p a : ℕ) → p < B .passes → a < itemCount B → word (system B) p a ≡ loopWord B p (writer (itemAt B a))
     pub written : (g j : ℕ) → g < B .regions → lastBefore B (B .tasks) g ≡ some j → storeAt (system B) (B .passes) 0 (copy B (B .rank j) g) ≡ loopFinal B g
-    pub unwritten : (g : ℕ) → lastBefore B (B .tasks) g ≡ none → loopFinal B g ≡ B .start g
-    pub no-pass : (g : ℕ) → B .passes ≡ 0 → loopFinal B g ≡ B .start g
+    pub unwritten : (g : ℕ) → lastBefore B (B .tasks) g ≡ none → loopFinal B g ≡ B .starting g
+    pub no-pass : (g : ℕ) → B .passes ≡ 0 → loopFinal B g ≡ B .starting g
 
--- demand 3 of a body's items, whatever tests acceptance: every list of calls from the opening answers the loop's numbers
+-- demand 3 on the body's items, but for the calls for results: every list of calls from the opening answers the loop's numbers
 pub record Computes (B : Body) (can : Decides (system B)) : Type 0 where
   pub any-order : AnyOrder (system B) can
-  -- the k-th accepted start or finish of an item answers the word of its writer in pass k of the loop, which is one of its passes
+  -- the accepted starts of an item answer the words of its writer in passes 0, 1, 2 and on of the loop, and so do its finishes
   pub answers : (l : List Call) (c : Call) (v : ℕ) → reply (system B) can (reached (system B) can l) c ≡ some v →
       (item c < itemCount B) × (times (system B) can c l < B .passes) × (v ≡ loopWord B (times (system B) can c l) (writer (itemAt B (item c))))
   -- the end is reached exactly when the accepted steps are 2 × passes × items

@@ -24,11 +24,11 @@ module _ (S : System) where
   total-after : (s : State) (c : Call) → Can S s c → total (after S s c) ≡ suc (total s)
   unfolding startState finishState
   total-after s (start a) h =
-      sum-suc (S .items) (λ b. s .started b + s .finished b) (λ b. update (s .started) a (suc (s .started a)) b + s .finished b) a (h .exists)
+      sum-suc (S .items) (λ b. s .started b + s .finished b) (λ b. update (s .started) a (suc (s .started a)) b + s .finished b) a (h .in-range)
       (omega (arith, update-same (s .started) a (suc (s .started a))))
       (λ b ne. omega (arith, update-other (s .started) a (suc (s .started a)) b ne))
   total-after s (finish a) h =
-      sum-suc (S .items) (λ b. s .started b + s .finished b) (λ b. s .started b + update (s .finished) a (suc (s .finished a)) b) a (h .exists)
+      sum-suc (S .items) (λ b. s .started b + s .finished b) (λ b. s .started b + update (s .finished) a (suc (s .finished a)) b) a (h .in-range)
       (omega (arith, update-same (s .finished) a (suc (s .finished a))))
       (λ b ne. omega (arith, update-other (s .finished) a (suc (s .finished a)) b ne))
 

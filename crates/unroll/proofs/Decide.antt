@@ -41,8 +41,8 @@ module _ (S : System) where
   unfoldable pub dec-conflict : (a b x : ℕ) → Dec (Conflict S a b x)
   dec-conflict a b x =
       dec-map
-      (λ h. record { first = h .0; second = h .1 .0; writer = h .1 .1 })
-      (λ c. (c .first, (c .second, c .writer)))
+      (λ h. record { first = h .0; second = h .1 .0; one-writes = h .1 .1 })
+      (λ c. (c .first, (c .second, c .one-writes)))
       (Dec·and (dec-accesses a x) (Dec·and (dec-accesses b x) (dec-sum (dec-writes a x) (dec-writes b x))))
 
   unfoldable pub dec-last : (x p a q b : ℕ) → Last S x p a q b → Dec (Unwritten S x p a q b)
@@ -94,15 +94,15 @@ module _ (S : System) where
   unfoldable pub dec-start : (s : State) (a : ℕ) → Dec (CanStart S s a)
   dec-start s a =
       dec-map
-      (λ h. record { exists = h .0; left = h .1 .0; idle = h .1 .1 .0; ready = ready-all s a (h .1 .1 .1) })
-      (λ c. (c .exists, (c .left, (c .idle, λ b l d m e k. c .ready b d (s .started a - d) e (omega arith)))))
+      (λ h. record { in-range = h .0; left = h .1 .0; idle = h .1 .1 .0; ready = ready-all s a (h .1 .1 .1) })
+      (λ c. (c .in-range, (c .left, (c .idle, λ b l d m e k. c .ready b d (s .started a - d) e (omega arith)))))
       (Dec·and (decLt a (S .items)) (Dec·and (decLt (s .finished a) (S .passes a)) (Dec·and (ℕ-discrete (s .started a) (s .finished a)) (dec-ready s a))))
 
   unfoldable pub dec-finish : (s : State) (a : ℕ) → Dec (CanFinish S s a)
   dec-finish s a =
       dec-map
-      (λ h. record { exists = h .0; running = h .1 })
-      (λ c. (c .exists, c .running))
+      (λ h. record { in-range = h .0; running = h .1 })
+      (λ c. (c .in-range, c .running))
       (Dec·and (decLt a (S .items)) (ℕ-discrete (s .started a) (suc (s .finished a))))
 
   abbrev pub decides : Decides S

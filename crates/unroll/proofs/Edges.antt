@@ -12,10 +12,10 @@ use Rattle.unroll.proofs.Instances.{before-pass, before-later, before-s
 
 module _ (S : System) where
   pub conflict-written : (a b x : ℕ) → Writes S a x → Accesses S b x → Conflict S a b x
-  conflict-written a b x w h = record { first = writing w; second = h; writer = inl w }
+  conflict-written a b x w h = record { first = writing w; second = h; one-writes = inl w }
 
   pub conflict-writes : (a b x : ℕ) → Accesses S a x → Writes S b x → Conflict S a b x
-  conflict-writes a b x h w = record { first = h; second = writing w; writer = inr w }
+  conflict-writes a b x h w = record { first = h; second = writing w; one-writes = inr w }
 
   -- passes later, and passes sooner
   unwritten-later : (k x p a q b : ℕ) → Unwritten S x p a q b → Unwritten S x (k + p) a (k + q) b
@@ -51,7 +51,7 @@ module _ (S : System) where
         | yes k ↦ absurd (⊎-elim
             (λ w. e .between (suc p) a (e .from) (earlier (omega arith)) (earlier k) w)
             (λ w. e .between (q - 1) b (e .to) (earlier (omega arith)) (earlier (omega arith)) w)
-            (e .conflict .writer))
+            (e .conflict .one-writes))
         | no k ↦ elim (decLt p q) [ yes l ↦ inr (omega arith) | no l ↦ inl (omega (arith, before-pass p a q b (e .order))) ]
       ]
 
@@ -72,5 +72,17 @@ module _ (S : System) where
   edge-within a b d (rule e) z = before-item 0 a d b (e .order) (omega arith)
   edge-within a b d (reuse l e h) z = absurd (omega arith)
 
+  edge-only-readers : (a b d : ℕ) → (a ≡ b → ⊥) → ((x : ℕ) → Accesses S a x → Accesses S b x → (Writes S a x → ⊥) × (Writes S b x → ⊥)) → Edge S a b d → ⊥
+  edge-only-readers a b d ne f (reuse l e h) = ne e
+  edge-only-readers a b d ne f (rule e) =
+      let k = f (e .place) (e .conflict .first) (e .conflict .second) in
+      ⊎-elim (k .0) (k .1) (e .conflict .one-writes)
+
   pub edge-laws : EdgeLaws S
-  edge-laws = record { every-pass = λ k p a q b. (dependence-later k p a q b, dependence-sooner k p a q b); same-or-next = same-or-next; distance = edge-distance }
+  edge-laws =
+      record {
+        every-pass = λ k p a q b. (dependence-later k p a q b, dependence-sooner k p a q b);
+        same-or-next = same-or-next;
+        distance = edge-distance;
+        only-readers = edge-only-readers;
+      }

@@ -60,19 +60,19 @@ module _ (S : System) where
   -- an instance that a's next pass depends on has finished, if it is made
   start-waited : (s : State) (a x q b : ℕ) → b < S .items → CanStart S s a → Before q b (s .finished a) a → Conflict S b a x →
       Unwritten S x q b (s .finished a) a → q < S .passes b → q < s .finished b
-  start-waited s a x q b lb cs u k f m = go (dependence-edge S q b (s .finished a) a (record { from = lb; to = cs .exists; place = x; conflict = k; order = u; between = f }))
+  start-waited s a x q b lb cs u k f m = go (dependence-edge S q b (s .finished a) a (record { from = lb; to = cs .in-range; place = x; conflict = k; order = u; between = f }))
     where
       go : (d : ℕ) × (q + d ≡ s .finished a) × Edge S b a d → q < s .finished b
       go (d, h, e) = ⊎-elim (λ t. t) (λ t. absurd (omega (arith, t))) (cs .ready b d q e (omega (arith, cs .idle)))
 
   -- so all that conflicts and comes before has: the last writer between served it
   start-served : WritersMade S → (s : State) (a : ℕ) → Invariant s → CanStart S s a → Served s (s .finished a) a
-  start-served W s a i cs q b x lb u k m = go (last-writer S x q b (s .finished a) a (omega (arith, cs .exists)) u)
+  start-served W s a i cs q b x lb u k m = go (last-writer S x q b (s .finished a) a (omega (arith, cs .in-range)) u)
     where
       go : Last S x q b (s .finished a) a → q < s .finished b
       go (clear f) = start-waited s a x q b lb cs u k f m
       go (writer r c lc v w t f) =
-          let made : r < S .passes c = W r c (s .finished a) a x lc (cs .exists) w t (k .second) (cs .left) in
+          let made : r < S .passes c = W r c (s .finished a) a x lc (cs .in-range) w t (k .second) (cs .left) in
           let done : r < s .finished c = start-waited s a x r c lc cs w (conflict-written S c a x t (k .second)) f made in
           i .served r c lc (omega (arith, i .low c)) q b x lb v (conflict-writes S b c x (k .first) t) m
 
@@ -91,9 +91,9 @@ module _ (S : System) where
       ap
       (S .compute a)
       (map-ext (s .places) (storeAt S (s .finished a) a) (S .reads a) (λ x h.
-      i .stored x (s .finished a) a (omega (arith, cs .exists))
+      i .stored x (s .finished a) a (omega (arith, cs .in-range))
       (λ r b lb u m t. start-served W s a i cs r b x lb u (conflict-written S b a x t (reading h)) m)
-      (unfinished-fresh s a x i (cs .exists) (cs .left) (reading h))))
+      (unfinished-fresh s a x i (cs .in-range) (cs .left) (reading h))))
 
   start-serves : WritersMade S → (s : State) (a : ℕ) → Invariant s → CanStart S s a → (p c : ℕ) → c < S .items → p < update (s .started) a (suc (s .started a)) c → Served s p c
   start-serves W s a i cs p =
@@ -154,14 +154,14 @@ module _ (S : System) where
       (suc (s .finished a))
       (λ lb u t h. omega (arith, before-item (s .finished a) a r a u (omega arith)))
       (λ b ne lb u t h.
-      omega (arith, i .served r b lb (omega (arith, i .low b)) (s .finished a) a x (cf .exists) u (conflict-writes S a b x (writing w) t) (omega (arith, cf .running, i .most a))))
+      omega (arith, i .served r b lb (omega (arith, i .low b)) (s .finished a) a x (cf .in-range) u (conflict-writes S a b x (writing w) t) (omega (arith, cf .running, i .most a))))
 
   finish-before : (s : State) (a x q c : ℕ) → CanFinish S s a → Writes S a x → Fresh (finishState S s a) x q c → Before (s .finished a) a q c
   unfolding finishState
   finish-before s a x q c cf w g =
       ⊎-elim
       (λ v. v)
-      (λ v. absurd (g (s .finished a) a (cf .exists) v w (omega (arith, update-same (s .finished) a (suc (s .finished a))))))
+      (λ v. absurd (g (s .finished a) a (cf .in-range) v w (omega (arith, update-same (s .finished) a (suc (s .finished a))))))
       (before-or-after (s .finished a) a q c)
 
   -- the places that it writes
@@ -170,7 +170,7 @@ module _ (S : System) where
   unfolding finishState
   finish-own s a i cf x q c w l f g =
       put-in (S .writes a) _ _ x w
-      ∙ i .holds a (cf .exists) (cf .running)
+      ∙ i .holds a (cf .in-range) (cf .running)
       ∙ sym
       (store-stretch
       S
@@ -180,7 +180,7 @@ module _ (S : System) where
       c
       x
       (before-suc (s .finished a) a q c (finish-before s a x q c cf w g))
-      (cf .exists)
+      (cf .in-range)
       l
       (λ r b lb u v m t. finish-last s a x i cf w r b lb (before-pred (s .finished a) a r b u) t (f r b lb v m t))
       ∙ store-written S (s .finished a) a x (omega (arith, cf .running, i .most a)) w)

@@ -4,6 +4,7 @@ pub mod LastWriter
 pub mod Edges
 pub mod Decide
 pub mod EdgeList
+pub mod Local
 pub mod Invariant
 pub mod Runs
 pub mod Progress

@@ -65,8 +65,8 @@ module _ (S : System) (s : State) where
   first-can : (a : ℕ) → a < S .items → Left a → First (S .items) a → Invariant S s → (c : Call) × Can S s c
   first-can a la m f i =
       elim (decLt (s .finished a) (s .started a)) [
-        | yes h ↦ (finish a, record { exists = la; running = omega (arith, i .high a) })
-        | no h ↦ (start a, record { exists = la; left = m; idle = omega (arith, i .low a); ready = λ b d p e k. first-met a b d p f e (omega (arith, i .low a)) })
+        | yes h ↦ (finish a, record { in-range = la; running = omega (arith, i .high a) })
+        | no h ↦ (start a, record { in-range = la; left = m; idle = omega (arith, i .low a); ready = λ b d p e k. first-met a b d p f e (omega (arith, i .low a)) })
       ]
 
   -- no item has a pass left, or a call can be accepted

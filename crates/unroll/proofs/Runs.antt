@@ -2,7 +2,7 @@
 use Prim.Native.Nat.{ℕ, suc, _+_, _≤_, _<_}
 use mathlib.Core.Path.{_≡_, refl, sym, _∙_, ap}
 use mathlib.Core.Bool.{Bool, true, false, cond}
-use mathlib.Core.Logic.{ite, if-pos}
+use mathlib.Core.Logic.{ite, if-pos, if-neg}
 use mathlib.Core.List.{List, [], _∷_, _++_}
 use mathlib.Core.Option.{none, some, Option·some-injective, Option·none-ne-some}
 use native.Mathlib.Omega.{arith}
@@ -29,6 +29,10 @@ module _ (S : System) (can : Decides S) where
   pub can-accepts : (s : State) (c : Call) → Can S s c → reply S can s c ≡ some (answer S s c)
   unfolding reply
   can-accepts s c h = if-pos (can s c) h (some (answer S s c)) none
+
+  pub cannot-refuses : (s : State) (c : Call) → (Can S s c → ⊥) → reply S can s c ≡ none
+  unfolding reply
+  cannot-refuses s c f = if-neg (can s c) f (some (answer S s c)) none
 
   pub can-steps : (s : State) (c : Call) → Can S s c → step S can s c ≡ after S s c
   unfolding step
@@ -115,7 +119,7 @@ module _ (S : System) (can : Decides S) where
 
     answer-word : (s : State) (c : Call) → Invariant S s → Can S s c → answer S s c ≡ word S (shown s c) (item c)
     answer-word s (start a) i h = start-word S W s a i h ∙ ap (λ (k : ℕ). word S k a) (sym (h .idle))
-    answer-word s (finish a) i h = i .holds a (h .exists) (h .running)
+    answer-word s (finish a) i h = i .holds a (h .in-range) (h .running)
 
     pub answers : (l : List Call) (c : Call) (v : ℕ) → reply S can (reached S can l) c ≡ some v → v ≡ word S (times S can c l) (item c)
     answers l c v e =
@@ -123,14 +127,26 @@ module _ (S : System) (can : Decides S) where
         sym (h .1) ∙ (answer-word (reached S can l) c (reached-invariant l) (h .0) ∙ ap (λ (k : ℕ). word S k (item c)) (shown-times c l))
 
     shown-made : (s : State) (c : Call) → Invariant S s → Can S s c → (item c < S .items) × (shown s c < S .passes (item c))
-    shown-made s (start a) i h = (h .exists, omega (arith, h .left, h .idle))
-    shown-made s (finish a) i h = (h .exists, omega (arith, h .running, i .most a))
+    shown-made s (start a) i h = (h .in-range, omega (arith, h .left, h .idle))
+    shown-made s (finish a) i h = (h .in-range, omega (arith, h .running, i .most a))
 
     pub in-passes : (l : List Call) (c : Call) (v : ℕ) → reply S can (reached S can l) c ≡ some v → (item c < S .items) × (times S can c l < S .passes (item c))
     in-passes l c v e =
         let h : Can S (reached S can l) c × (answer S (reached S can l) c ≡ v) = reply-some S can (reached S can l) c v e in
         let m : (item c < S .items) × (shown (reached S can l) c < S .passes (item c)) = shown-made (reached S can l) c (reached-invariant l) (h .0) in
         (m .0, omega (arith, m .1, shown-times c l))
+
+    pub last-started : (l : List Call) (a v : ℕ) → reply S can (reached S can l) (finish a) ≡ some v → times S can (start a) l ≡ suc (times S can (finish a) l)
+    last-started l a v e =
+        let h : Can S (reached S can l) (finish a) × (answer S (reached S can l) (finish a) ≡ v) = reply-some S can (reached S can l) (finish a) v e in
+        omega (arith, h .0 .running, shown-times (start a) l, shown-times (finish a) l)
+
+    end-refuses : (s : State) (c : Call) → Invariant S s → End S s → Can S s c → ⊥
+    end-refuses s (start a) i e h = omega (arith, e a (h .in-range), h .left)
+    end-refuses s (finish a) i e h = omega (arith, e a (h .in-range), h .running, i .most a)
+
+    pub over : (l : List Call) (c : Call) → End S (reached S can l) → reply S can (reached S can l) c ≡ none
+    over l c e = cannot-refuses S can (reached S can l) c (end-refuses (reached S can l) c (reached-invariant l) e)
 
     pub final : (l : List Call) → End S (reached S can l) → (p : ℕ) → ((a : ℕ) → a < S .items → S .passes a ≤ p) → (x : ℕ) → (reached S can l) .places x ≡ storeAt S p 0 x
     final l e p h x =

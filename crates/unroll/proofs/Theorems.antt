@@ -1,18 +1,20 @@
 -- The statements of specs/Statement.antt, proved.
-use Prim.Native.Nat.{ℕ, _<_}
+use Prim.Native.Nat.{ℕ, zero, suc, _+_, _<_}
 use mathlib.Core.Path.{_≡_}
-use mathlib.Core.Logic.{inl, inr}
+use mathlib.Core.Logic.{inl, inr, _↔_}
 use mathlib.Core.List.{List}
 use mathlib.Core.Option.{some}
 use native.Mathlib.Omega.{arith}
 use Rattle.unroll.specs.System.{System}
-use Rattle.unroll.specs.Machine.{Call, answer, Decides, reply}
-use Rattle.unroll.specs.Statement.{WritersMade, reached, AnyOrder, Laws}
+use Rattle.unroll.specs.Edges.{Edge}
+use Rattle.unroll.specs.Machine.{State, Call, Met, CanStart, start, finish, answer, Decides, reply}
+use Rattle.unroll.specs.Statement.{EqualPasses, StartRule, WritersMade, reached, AnyOrder, Laws}
 use Rattle.unroll.proofs.Instances.{before-pass}
-use Rattle.unroll.proofs.Edges.{edge-laws}
+use Rattle.unroll.proofs.Edges.{edge-from, edge-distance, edge-laws}
 use Rattle.unroll.proofs.Decide.{decides}
+use Rattle.unroll.proofs.Local.{same-machine, local}
 use Rattle.unroll.proofs.Progress.{end-or-can}
-use Rattle.unroll.proofs.Runs.{can-accepts, reply-none, reached-invariant, answers, in-passes, final}
+use Rattle.unroll.proofs.Runs.{can-accepts, reply-none, shown-times, reached-invariant, answers, in-passes, last-started, over, final}
 use Rattle.unroll.proofs.Counts.{counts, ends, completes}
 
 module _ (S : System) (can : Decides S) (W : WritersMade S) where
@@ -26,18 +28,46 @@ module _ (S : System) (can : Decides S) (W : WritersMade S) where
   pub any-order : AnyOrder S can
   any-order =
       record {
+        starts = λ l a. shown-times S can (start a) l;
+        finishes = λ l a. shown-times S can (finish a) l;
         answers = answers S can W;
         in-passes = in-passes S can W;
+        last-started = last-started S can W;
         refused = λ l. reply-none S can (reached S can l);
         progress = progress;
+        over = over S can W;
         completes = completes S can W;
         counts = counts S can;
         ends = ends S can W;
         final = final S can W;
       }
 
-pub equal-passes : (S : System) → ((a b : ℕ) → a < S .items → b < S .items → S .passes a ≡ S .passes b) → WritersMade S
-equal-passes S f p b q a x lb la u w h m = omega (arith, f a b la lb, before-pass p b q a u)
+module _ (S : System) (E : EqualPasses S) where
+  pub equal-passes : WritersMade S
+  equal-passes p b q a x lb la u w h m = omega (arith, E a b la lb, before-pass p b q a u)
+
+  -- an instance that a start waits for is made
+  met-finished : (s : State) (a b p : ℕ) → a < S .items → b < S .items → p < S .passes a → Met S s b p → p < s .finished b
+  met-finished s a b p la lb l (inl h) = h
+  met-finished s a b p la lb l (inr h) = absurd (omega (arith, E a b la lb))
+
+  rule-start : (s : State) (a : ℕ) → CanStart S s a → StartRule S s a
+  rule-start s a c =
+      record {
+        in-range = c .in-range;
+        left = c .left;
+        idle = c .idle;
+        same-pass = λ b e. met-finished s a b (s .started a) (c .in-range) (edge-from S b a 0 e) (omega (arith, c .idle, c .left)) (c .ready b 0 (s .started a) e (omega arith));
+        pass-before = λ b p e h. met-finished s a b p (c .in-range) (edge-from S b a 1 e) (omega (arith, c .idle, c .left)) (c .ready b 1 p e (omega arith));
+      }
+
+  start-ready : (s : State) (a : ℕ) → StartRule S s a → (b d p : ℕ) → Edge S b a d → p + d ≡ s .started a → Met S s b p
+  start-ready s a r b zero p e h = inl (omega (arith, r .same-pass b e))
+  start-ready s a r b (suc zero) p e h = inl (r .pass-before b p e (omega arith))
+  start-ready s a r b (suc (suc d)) p e h = absurd (omega (arith, edge-distance S b a (suc (suc d)) e))
+
+  pub start-rule : (s : State) (a : ℕ) → CanStart S s a ↔ StartRule S s a
+  start-rule s a = (rule-start s a, λ r. record { in-range = r .in-range; left = r .left; idle = r .idle; ready = start-ready s a r })
 
 pub laws : Laws
-laws = record { edges = edge-laws; decides = decides; any-order = any-order; equal-passes = equal-passes }
+laws = record { edges = edge-laws; decides = decides; same-machine = same-machine; local = local; any-order = any-order; equal-passes = equal-passes; start-rule = start-rule }

@@ -10,7 +10,7 @@ module _ (S : System) where
   pub record Conflict (a b x : ℕ) : Type 0 where
     pub first : Accesses S a x
     pub second : Accesses S b x
-    pub writer : Writes S a x ⊎ Writes S b x
+    pub one-writes : Writes S a x ⊎ Writes S b x
 
   -- no item instance strictly between (p, a) and (q, b) writes x: all passes are unrolled, whichever number the loop has
   abbrev pub Unwritten : ℕ → ℕ → ℕ → ℕ → ℕ → Type 0

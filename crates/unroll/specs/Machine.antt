@@ -1,4 +1,5 @@
--- The step machine (paper 01, "Steps"): which calls are accepted, what they answer and change, and lists of calls.
+-- The step machine (paper 01, "Steps"): which calls are accepted, what they answer and change, and lists of calls. States out of form
+-- (refusal 12) are turned away before the machine sees them.
 use Prim.Native.Nat.{ℕ, suc, _+_, _≤_, _<_}
 use mathlib.Core.Path.{_≡_}
 use mathlib.Core.Bool.{Bool, true, false, cond}
@@ -40,21 +41,22 @@ module _ (S : System) where
   unfoldable pub opening : State
   opening = record { started = λ a. 0; finished = λ a. 0; places = S .initial; held = λ a. 0 }
 
-  -- the wait for item b in pass p is met: the instance has finished, or it is not made
+  -- the wait for item b in pass p is met: the instance has finished, or it is not made. Where all items have the same passes, the
+  -- second never decides (Statement.antt, StartRule)
   abbrev pub Met : State → ℕ → ℕ → Type 0
   Met s b p = (p < s .finished b) ⊎ (S .passes b ≤ p)
 
   -- a start is accepted when the item has a pass left and does not run, and each edge into its next pass has its source finished;
   -- an edge that comes from before pass 0 has none
   pub record CanStart (s : State) (a : ℕ) : Type 0 where
-    pub exists : a < S .items
+    pub in-range : a < S .items
     pub left : s .finished a < S .passes a
     pub idle : s .started a ≡ s .finished a
     pub ready : (b d p : ℕ) → Edge S b a d → p + d ≡ s .started a → Met s b p
 
   -- a finish is accepted when the item runs
   pub record CanFinish (s : State) (a : ℕ) : Type 0 where
-    pub exists : a < S .items
+    pub in-range : a < S .items
     pub running : s .started a ≡ suc (s .finished a)
 
   -- a start reads and computes the word, and holds it
@@ -90,7 +92,7 @@ module _ (S : System) where
   answer s (start a) = wordOn S a (s .places)
   answer s (finish a) = s .held a
 
-  -- a test of acceptance; the machine is the same for each
+  -- a test of acceptance: the machine is the same for each (Laws .same-machine)
   abbrev pub Decides : Type 0
   Decides = (s : State) (c : Call) → Dec (Can s c)
 
@@ -102,10 +104,14 @@ module _ (S : System) (can : Decides S) where
   unfoldable pub step : State → Call → State
   step s c = ite (can s c) (after S s c) s
 
-  -- the state after a list of calls
+  -- the state after a list of calls, and what they are answered
   unfoldable pub run : State → List Call → State
   run s [] = s
   run s (c ∷ l) = run (step s c) l
+
+  unfoldable pub replies : State → List Call → List (Option ℕ)
+  replies s [] = []
+  replies s (c ∷ l) = reply s c ∷ replies (step s c) l
 
   -- how many calls of the list are accepted, of those that the test picks
   unfoldable pub accepted : (Call → Bool) → State → List Call → ℕ

@@ -1,4 +1,5 @@
--- The items run one after another, pass after pass: what every other order is compared with.
+-- The items in order: run one after another, pass after pass. Every other order is compared with this one; that it computes the
+-- paper's unrolled loop, which knows no items, is shown in the crate body.
 use Prim.Native.Nat.{ℕ, zero, suc}
 use mathlib.Core.List.{map}
 use mathlib.Core.Logic.{ite}

@@ -10,7 +10,7 @@ use Rattle.unroll.specs.Instances.{Before}
 use Rattle.unroll.specs.System.{System, Writes, Accesses}
 use Rattle.unroll.specs.Sequential.{storeAt, word}
 use Rattle.unroll.specs.Edges.{Dependence, Edge}
-use Rattle.unroll.specs.Machine.{State, Call, item, alike, every, opening, Decides, reply, step, run, accepted}
+use Rattle.unroll.specs.Machine.{State, Call, start, finish, item, alike, every, opening, CanStart, Decides, reply, step, run, accepted}
 
 module _ (S : System) where
   -- the rule's edges are the same from every pass on, and no other distance than 0 and 1 occurs
@@ -18,8 +18,23 @@ module _ (S : System) where
     pub every-pass : (k p a q b : ℕ) → Dependence S p a q b ↔ Dependence S (k + p) a (k + q) b
     pub same-or-next : (p a q b : ℕ) → Dependence S p a q b → (q ≡ p) ⊎ (q ≡ suc p)
     pub distance : (a b d : ℕ) → Edge S a b d → d ≤ 1
+    -- two items that write nothing they both access have none between them
+    pub only-readers : (a b d : ℕ) → (a ≡ b → ⊥) → ((x : ℕ) → Accesses S a x → Accesses S b x → (Writes S a x → ⊥) × (Writes S b x → ⊥)) → Edge S a b d → ⊥
 
-  -- what is assumed of passes that differ from item to item: a place that a made instance accesses has no writer before it that is not made
+  -- all items have the same passes, as the paper's have
+  abbrev pub EqualPasses : Type 0
+  EqualPasses = (a b : ℕ) → a < S .items → b < S .items → S .passes a ≡ S .passes b
+
+  -- the paper's words for a start of item a in its next pass: every edge into a at distance 0 has its source finished in that pass, and
+  -- every one at distance 1 in the pass before, if there is one
+  pub record StartRule (s : State) (a : ℕ) : Type 0 where
+    pub in-range : a < S .items
+    pub left : s .finished a < S .passes a
+    pub idle : s .started a ≡ s .finished a
+    pub same-pass : (b : ℕ) → Edge S b a 0 → s .started a < s .finished b
+    pub pass-before : (b p : ℕ) → Edge S b a 1 → s .started a ≡ suc p → p < s .finished b
+
+  -- what is assumed where passes differ from item to item: a place that a made instance accesses has no writer before it that is not made
   abbrev pub WritersMade : Type 0
   WritersMade = (p b q a x : ℕ) → b < S .items → a < S .items → Before p b q a → Writes S b x → Accesses S a x → q < S .passes a → p < S .passes b
 
@@ -31,28 +46,40 @@ module _ (S : System) where
   unfoldable pub allSteps : ℕ
   allSteps = sumBelow (S .items) (λ a. 2 * S .passes a)
 
+  -- states that agree on the items, and on the places that items access
+  pub record Agree (s t : State) : Type 0 where
+    pub started : (a : ℕ) → a < S .items → s .started a ≡ t .started a
+    pub finished : (a : ℕ) → a < S .items → s .finished a ≡ t .finished a
+    pub held : (a : ℕ) → a < S .items → s .held a ≡ t .held a
+    pub places : (a x : ℕ) → a < S .items → Accesses S a x → s .places x ≡ t .places x
+
 module _ (S : System) (can : Decides S) where
   -- the state after a list of calls from the opening
   abbrev pub reached : List Call → State
   reached l = run S can (opening S) l
 
-  -- how many calls of the list are accepted; how many starts, or finishes, of one item
+  -- how many calls of the list are accepted; how many that are alike, as the starts of one item
   abbrev pub steps : List Call → ℕ
   steps l = accepted S can every (opening S) l
 
   abbrev pub times : Call → List Call → ℕ
   times c l = accepted S can (alike c) (opening S) l
 
-  -- demand 3, of every list of calls from the opening, refused ones included
+  -- demand 3 with the items in order for the loop: l is any list of calls from the opening, refused ones included, and so any first part of one
   pub record AnyOrder : Type 0 where
+    -- the counts are of accepted starts and finishes
+    pub starts : (l : List Call) (a : ℕ) → (reached l) .started a ≡ times (start a) l
+    pub finishes : (l : List Call) (a : ℕ) → (reached l) .finished a ≡ times (finish a) l
     -- the accepted starts of an item answer its words in passes 0, 1, 2 and on, and so do its finishes
     pub answers : (l : List Call) (c : Call) (v : ℕ) → reply S can (reached l) c ≡ some v → v ≡ word S (times c l) (item c)
-    -- an accepted call is of an item, in one of its passes
+    -- an accepted call is of an item, in one of its passes; an accepted finish belongs to the pass last started
     pub in-passes : (l : List Call) (c : Call) (v : ℕ) → reply S can (reached l) c ≡ some v → (item c < S .items) × (times c l < S .passes (item c))
+    pub last-started : (l : List Call) (a v : ℕ) → reply S can (reached l) (finish a) ≡ some v → times (start a) l ≡ suc (times (finish a) l)
     -- a refused call changes nothing
     pub refused : (l : List Call) (c : Call) → reply S can (reached l) c ≡ none → step S can (reached l) c ≡ reached l
-    -- while an item has a pass left, some step is accepted
+    -- while an item has a pass left, some step is accepted; at the end none is
     pub progress : (l : List Call) (a : ℕ) → a < S .items → (reached l) .finished a < S .passes a → (c : Call) × (v : ℕ) × (reply S can (reached l) c ≡ some v)
+    pub over : (l : List Call) (c : Call) → End S (reached l) → reply S can (reached l) c ≡ none
     -- accepted steps lead on to the end
     pub completes : (l : List Call) → (k : List Call) × (accepted S can every (reached l) k ≡ length k) × End S (reached (l ++ k))
     -- the accepted steps are those that the counts show, and the end is reached exactly when they are two for each pass of each item
@@ -61,9 +88,14 @@ module _ (S : System) (can : Decides S) where
     -- at the end the places hold what the items in order leave, after as many passes as the longest item has
     pub final : (l : List Call) → End S (reached l) → (p : ℕ) → ((a : ℕ) → a < S .items → S .passes a ≤ p) → (x : ℕ) → (reached l) .places x ≡ storeAt S p 0 x
 
--- the assumption holds where all items have the same passes
 pub record Laws : Type 0 where
   pub edges : (S : System) → EdgeLaws S
+  -- acceptance can be tested, and every test makes the same machine
   pub decides : (S : System) → Decides S
+  pub same-machine : (S : System) (can can′ : Decides S) (s : State) (c : Call) → (reply S can s c ≡ reply S can′ s c) × (step S can s c ≡ step S can′ s c)
+  -- what the items do not use has no part in it
+  pub local : (S : System) (can : Decides S) (s t : State) (c : Call) → Agree S s t → (reply S can s c ≡ reply S can t c) × Agree S (step S can s c) (step S can t c)
   pub any-order : (S : System) (can : Decides S) → WritersMade S → AnyOrder S can
-  pub equal-passes : (S : System) → ((a b : ℕ) → a < S .items → b < S .items → S .passes a ≡ S .passes b) → WritersMade S
+  -- where all items have the same passes, the assumption holds and a start is accepted by the paper's words
+  pub equal-passes : (S : System) → EqualPasses S → WritersMade S
+  pub start-rule : (S : System) → EqualPasses S → (s : State) (a : ℕ) → CanStart S s a ↔ StartRule S s a

@@ -1,4 +1,4 @@
--- Items over numbered places.
+-- Items over numbered places: what the paper's tasks, sends and receives become once copies and slots are numbered (crate body).
 use Prim.Native.Nat.{ℕ}
 use mathlib.Core.Path.{_≡_}
 use mathlib.Core.Bool.{true}
