@@ -13,9 +13,9 @@ use Rattle.finite.specs.Lists.{mem}
 use Rattle.finite.proofs.Below.{sum-const}
 use Rattle.finite.proofs.Update.{put-out}
 use Rattle.unroll.specs.Sequential.{storeAt}
-use Rattle.unroll.specs.Machine.{Call, item, Decides, reply}
-use Rattle.unroll.specs.Statement.{End, allSteps, reached, steps, times, AnyOrder}
-use Rattle.unroll.proofs.Theorems.{any-order, equal-passes}
+use Rattle.unroll.specs.Machine.{Call, item, Decides}
+use Rattle.unroll.specs.Statement.{End, allSteps, reached, replyAfter, steps, times, AnyOrder}
+use Rattle.unroll.proofs.Theorems.{any-order, equal-passes, start-rule}
 use Rattle.body.specs.Body.{Body, Fits}
 use Rattle.body.specs.Loop.{tasksRun, cellsOf, cellsAt, loopWord, loopFinal}
 use Rattle.body.specs.Transfers.{lastBefore}
@@ -86,7 +86,7 @@ module _ (B : Body) where
       in-any-order : AnyOrder (system B) can
       in-any-order = any-order (system B) can (equal-passes (system B) (λ a b la lb. refl))
 
-      answers : (l : List Call) (c : Call) (v : ℕ) → reply (system B) can (reached (system B) can l) c ≡ some v →
+      answers : (l : List Call) (c : Call) (v : ℕ) → replyAfter (system B) can l c ≡ some v →
           (item c < itemCount B) × (times (system B) can c l < B .passes) × (v ≡ loopWord B (times (system B) can c l) (writer (itemAt B (item c))))
       answers l c v e =
           let m = in-any-order .in-passes l c v e in
@@ -116,4 +116,4 @@ module _ (B : Body) where
       computes = record { any-order = in-any-order; answers = answers; ends = ends; results = results }
 
 pub laws : Laws
-laws = record { meaning = meaning; in-order = in-order; computes = computes }
+laws = record { meaning = meaning; start-rule = λ B. start-rule (system B) (λ a b la lb. refl); in-order = in-order; computes = computes }

@@ -9,8 +9,8 @@ use Rattle.finite.specs.Lists.{mem, position}
 use Rattle.unroll.specs.Instances.{Before}
 use Rattle.unroll.specs.Sequential.{storeAt, word}
 use Rattle.unroll.specs.Edges.{Edge}
-use Rattle.unroll.specs.Machine.{Call, item, Decides, reply}
-use Rattle.unroll.specs.Statement.{End, reached, steps, times, AnyOrder}
+use Rattle.unroll.specs.Machine.{State, Call, item, CanStart, Decides}
+use Rattle.unroll.specs.Statement.{StartRule, End, reached, replyAfter, steps, times, AnyOrder}
 use Rattle.body.specs.Body.{Body, Fits}
 use Rattle.body.specs.Loop.{loopWord, loopFinal}
 use Rattle.body.specs.Transfers.{lastBefore, source}
@@ -30,8 +30,7 @@ module _ (B : Body) where
     pub writes : mem g (B .writes j) ≡ true
     pub last : (k : ℕ) → j < k → k < t → mem g (B .writes k) ≡ false
 
-  -- task j in pass p, which is 0 or 1, writes g before task t in pass 1, the first that has a pass before it, and no task instance in
-  -- between does
+  -- task j in pass p writes g before task t in pass 1, the first pass that has one before it, and no task instance in between does
   pub record Source (t g p j : ℕ) : Type 0 where
     pub below : j < B .tasks
     pub writes : mem g (B .writes j) ≡ true
@@ -73,8 +72,10 @@ module _ (B : Body) where
     pub receives-listed : (i g q : ℕ) → Listed (receive i g q) ↔ IsTransfer i g q
     pub ordered : (a b : ℕ) → a < b → b < itemCount B → Less (key (itemAt B a)) (key (itemAt B b))
     pub listed-once : (a b : ℕ) → a < itemCount B → b < itemCount B → itemAt B a ≡ itemAt B b → a ≡ b
-    pub send-then : (a i g q : ℕ) → a < itemCount B → itemAt B a ≡ send i g q → (suc a < itemCount B) × (itemAt B (suc a) ≡ receive i g q)
-    pub receive-after : (a i g q : ℕ) → a < itemCount B → itemAt B a ≡ receive i g q → (b : ℕ) × (a ≡ suc b) × (itemAt B b ≡ send i g q)
+    pub send-then : (a i g q : ℕ) → a < itemCount B → itemAt B a ≡ send i g q →
+        (suc a < itemCount B) × (itemAt B (suc a) ≡ receive i g q)
+    pub receive-after : (a i g q : ℕ) → a < itemCount B → itemAt B a ≡ receive i g q →
+        (b : ℕ) × (a ≡ suc b) × (itemAt B b ≡ send i g q)
     -- copies and slots are places apart, and hold what the opening sets
     pub copies-apart : (q g r h : ℕ) → g < B .regions → h < B .regions → copy B q g ≡ copy B r h → (q ≡ r) × (g ≡ h)
     pub slots-apart : (a b : ℕ) → slot a ≡ slot b → a ≡ b
@@ -82,27 +83,34 @@ module _ (B : Body) where
     pub copy-opening : (q g : ℕ) → q < B .ranks → g < B .regions → initial B (copy B q g) ≡ B .starting g
     pub slot-opening : (a : ℕ) → initial B (slot a) ≡ 0
     -- no edge between tasks on two ranks, whatever regions they name
-    pub one-rank : (a b d i j : ℕ) → Edge (system B) a b d → itemAt B a ≡ task i → itemAt B b ≡ task j → B .rank i ≡ B .rank j
+    pub one-rank : (a b d i j : ℕ) → Edge (system B) a b d → itemAt B a ≡ task i → itemAt B b ≡ task j →
+        B .rank i ≡ B .rank j
 
   -- the items in order compute the loop: the words of the writers, and each region's final number
   pub record InOrder : Type 0 where
     pub words : (p a : ℕ) → p < B .passes → a < itemCount B → word (system B) p a ≡ loopWord B p (writer (itemAt B a))
-    pub written : (g j : ℕ) → g < B .regions → lastBefore B (B .tasks) g ≡ some j → storeAt (system B) (B .passes) 0 (copy B (B .rank j) g) ≡ loopFinal B g
+    pub written : (g j : ℕ) → g < B .regions → lastBefore B (B .tasks) g ≡ some j →
+        storeAt (system B) (B .passes) 0 (copy B (B .rank j) g) ≡ loopFinal B g
     pub unwritten : (g : ℕ) → lastBefore B (B .tasks) g ≡ none → loopFinal B g ≡ B .starting g
     pub no-pass : (g : ℕ) → B .passes ≡ 0 → loopFinal B g ≡ B .starting g
 
--- demand 3 on the body's items, but for the calls for results: every list of calls from the opening answers the loop's numbers
+-- demand 3 on the items of a body, but for calls for results: every list of calls from the opening answers the loop's numbers
 pub record Computes (B : Body) (can : Decides (system B)) : Type 0 where
   pub any-order : AnyOrder (system B) can
   -- the accepted starts of an item answer the words of its writer in passes 0, 1, 2 and on of the loop, and so do its finishes
-  pub answers : (l : List Call) (c : Call) (v : ℕ) → reply (system B) can (reached (system B) can l) c ≡ some v →
-      (item c < itemCount B) × (times (system B) can c l < B .passes) × (v ≡ loopWord B (times (system B) can c l) (writer (itemAt B (item c))))
+  pub answers : (l : List Call) (c : Call) (v : ℕ) → replyAfter (system B) can l c ≡ some v →
+      (item c < itemCount B)
+      × (times (system B) can c l < B .passes)
+      × (v ≡ loopWord B (times (system B) can c l) (writer (itemAt B (item c))))
   -- the end is reached exactly when the accepted steps are 2 × passes × items
   pub ends : (l : List Call) → End (system B) (reached (system B) can l) ↔ (steps (system B) can l ≡ 2 * (B .passes * itemCount B))
   -- and then each region's result is its final number in the loop
-  pub results : (l : List Call) → End (system B) (reached (system B) can l) → (g : ℕ) → g < B .regions → resultOf B (reached (system B) can l) g ≡ loopFinal B g
+  pub results : (l : List Call) → End (system B) (reached (system B) can l) →
+      (g : ℕ) → g < B .regions → resultOf B (reached (system B) can l) g ≡ loopFinal B g
 
 pub record Laws : Type 0 where
   pub meaning : (B : Body) → Fits B → Meaning B
+  -- demand 2 on starts: accepted exactly by the paper's words
+  pub start-rule : (B : Body) (s : State) (a : ℕ) → CanStart (system B) s a ↔ StartRule (system B) s a
   pub in-order : (B : Body) → Fits B → InOrder B
   pub computes : (B : Body) → Fits B → (can : Decides (system B)) → Computes B can

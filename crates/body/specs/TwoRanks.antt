@@ -7,8 +7,8 @@ use mathlib.Core.Option.{Option, none, some}
 use lib.ListN.{getD}
 use Rattle.unroll.specs.Sequential.{word}
 use Rattle.unroll.specs.Edges.{Edge}
-use Rattle.unroll.specs.Machine.{Call, start, finish, opening, Decides, run, replies}
-use Rattle.unroll.specs.Statement.{allSteps}
+use Rattle.unroll.specs.Machine.{Call, start, finish, opening, Decides, replies}
+use Rattle.unroll.specs.Statement.{allSteps, reached}
 use Rattle.body.specs.Body.{Body, Fits}
 use Rattle.body.specs.Loop.{loopWord, loopFinal}
 use Rattle.body.specs.Items.{task, send, receive, itemList}
@@ -91,9 +91,11 @@ pub record TwoRanks : Type 0 where
   pub edges : (a b d : ℕ) → Edge (system twoRanks) a b d ↔ In (a, b, d) tenEdges
   pub all-steps : allSteps (system twoRanks) ≡ 16
   -- the words of the items in passes 0 and 1, and the loop's
-  pub words : map (λ p. map (word (system twoRanks) p) (0 ∷ 1 ∷ 2 ∷ 3 ∷ [])) (0 ∷ 1 ∷ []) ≡ (6 ∷ 6 ∷ 6 ∷ 6 ∷ []) ∷ (7 ∷ 7 ∷ 7 ∷ 13 ∷ []) ∷ []
+  pub words : map (λ p. map (word (system twoRanks) p) (0 ∷ 1 ∷ 2 ∷ 3 ∷ [])) (0 ∷ 1 ∷ [])
+      ≡ (6 ∷ 6 ∷ 6 ∷ 6 ∷ []) ∷ (7 ∷ 7 ∷ 7 ∷ 13 ∷ []) ∷ []
   pub loop-words : map (λ p. map (loopWord twoRanks p) (0 ∷ 1 ∷ [])) (0 ∷ 1 ∷ []) ≡ (6 ∷ 6 ∷ []) ∷ (7 ∷ 13 ∷ []) ∷ []
   pub finals : map (loopFinal twoRanks) (0 ∷ 1 ∷ []) ≡ 7 ∷ 13 ∷ []
   -- the machine, run on the calls
-  pub answered : (can : Decides (system twoRanks)) → replies (system twoRanks) can (opening (system twoRanks)) calls ≡ map (λ (r : Call × Option ℕ). r .1) trace
-  pub results : (can : Decides (system twoRanks)) → map (resultOf twoRanks (run (system twoRanks) can (opening (system twoRanks)) calls)) (0 ∷ 1 ∷ []) ≡ 7 ∷ 13 ∷ []
+  pub answered : (can : Decides (system twoRanks)) →
+      replies (system twoRanks) can (opening (system twoRanks)) calls ≡ map (λ (r : Call × Option ℕ). r .1) trace
+  pub results : (can : Decides (system twoRanks)) → map (resultOf twoRanks (reached (system twoRanks) can calls)) (0 ∷ 1 ∷ []) ≡ 7 ∷ 13 ∷ []

@@ -12,7 +12,7 @@ use Rattle.finite.specs.Update.{update}
 use Rattle.unroll.specs.System.{System}
 use Rattle.unroll.specs.Sequential.{storeAt, word}
 use Rattle.unroll.specs.Machine.{State, Call, start, finish, item, alike, opening, Can, after, answer, startState, finishState, Decides, reply, step, run, accepted}
-use Rattle.unroll.specs.Statement.{WritersMade, End, reached, times}
+use Rattle.unroll.specs.Statement.{WritersMade, End, reached, replyAfter, times}
 use Rattle.unroll.proofs.Instances.{before-pass}
 use Rattle.unroll.proofs.Invariant.{Invariant, opening-invariant, start-invariant, finish-invariant, start-word}
 
@@ -121,7 +121,7 @@ module _ (S : System) (can : Decides S) where
     answer-word s (start a) i h = start-word S W s a i h ∙ ap (λ (k : ℕ). word S k a) (sym (h .idle))
     answer-word s (finish a) i h = i .holds a (h .in-range) (h .running)
 
-    pub answers : (l : List Call) (c : Call) (v : ℕ) → reply S can (reached S can l) c ≡ some v → v ≡ word S (times S can c l) (item c)
+    pub answers : (l : List Call) (c : Call) (v : ℕ) → replyAfter S can l c ≡ some v → v ≡ word S (times S can c l) (item c)
     answers l c v e =
         let h : Can S (reached S can l) c × (answer S (reached S can l) c ≡ v) = reply-some S can (reached S can l) c v e in
         sym (h .1) ∙ (answer-word (reached S can l) c (reached-invariant l) (h .0) ∙ ap (λ (k : ℕ). word S k (item c)) (shown-times c l))
@@ -130,13 +130,13 @@ module _ (S : System) (can : Decides S) where
     shown-made s (start a) i h = (h .in-range, omega (arith, h .left, h .idle))
     shown-made s (finish a) i h = (h .in-range, omega (arith, h .running, i .most a))
 
-    pub in-passes : (l : List Call) (c : Call) (v : ℕ) → reply S can (reached S can l) c ≡ some v → (item c < S .items) × (times S can c l < S .passes (item c))
+    pub in-passes : (l : List Call) (c : Call) (v : ℕ) → replyAfter S can l c ≡ some v → (item c < S .items) × (times S can c l < S .passes (item c))
     in-passes l c v e =
         let h : Can S (reached S can l) c × (answer S (reached S can l) c ≡ v) = reply-some S can (reached S can l) c v e in
         let m : (item c < S .items) × (shown (reached S can l) c < S .passes (item c)) = shown-made (reached S can l) c (reached-invariant l) (h .0) in
         (m .0, omega (arith, m .1, shown-times c l))
 
-    pub last-started : (l : List Call) (a v : ℕ) → reply S can (reached S can l) (finish a) ≡ some v → times S can (start a) l ≡ suc (times S can (finish a) l)
+    pub last-started : (l : List Call) (a v : ℕ) → replyAfter S can l (finish a) ≡ some v → times S can (start a) l ≡ suc (times S can (finish a) l)
     last-started l a v e =
         let h : Can S (reached S can l) (finish a) × (answer S (reached S can l) (finish a) ≡ v) = reply-some S can (reached S can l) (finish a) v e in
         omega (arith, h .0 .running, shown-times (start a) l, shown-times (finish a) l)
@@ -145,8 +145,8 @@ module _ (S : System) (can : Decides S) where
     end-refuses s (start a) i e h = omega (arith, e a (h .in-range), h .left)
     end-refuses s (finish a) i e h = omega (arith, e a (h .in-range), h .running, i .most a)
 
-    pub over : (l : List Call) (c : Call) → End S (reached S can l) → reply S can (reached S can l) c ≡ none
-    over l c e = cannot-refuses S can (reached S can l) c (end-refuses (reached S can l) c (reached-invariant l) e)
+    pub at-end : (l : List Call) (c : Call) → End S (reached S can l) → replyAfter S can l c ≡ none
+    at-end l c e = cannot-refuses S can (reached S can l) c (end-refuses (reached S can l) c (reached-invariant l) e)
 
     pub final : (l : List Call) → End S (reached S can l) → (p : ℕ) → ((a : ℕ) → a < S .items → S .passes a ≤ p) → (x : ℕ) → (reached S can l) .places x ≡ storeAt S p 0 x
     final l e p h x =

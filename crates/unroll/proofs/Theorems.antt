@@ -7,18 +7,18 @@ use mathlib.Core.Option.{some}
 use native.Mathlib.Omega.{arith}
 use Rattle.unroll.specs.System.{System}
 use Rattle.unroll.specs.Edges.{Edge}
-use Rattle.unroll.specs.Machine.{State, Call, Met, CanStart, start, finish, answer, Decides, reply}
-use Rattle.unroll.specs.Statement.{EqualPasses, StartRule, WritersMade, reached, AnyOrder, Laws}
+use Rattle.unroll.specs.Machine.{State, Call, Met, CanStart, start, finish, answer, Decides}
+use Rattle.unroll.specs.Statement.{EqualPasses, StartRule, WritersMade, reached, replyAfter, AnyOrder, Laws}
 use Rattle.unroll.proofs.Instances.{before-pass}
 use Rattle.unroll.proofs.Edges.{edge-from, edge-distance, edge-laws}
 use Rattle.unroll.proofs.Decide.{decides}
 use Rattle.unroll.proofs.Local.{same-machine, local}
 use Rattle.unroll.proofs.Progress.{end-or-can}
-use Rattle.unroll.proofs.Runs.{can-accepts, reply-none, shown-times, reached-invariant, answers, in-passes, last-started, over, final}
+use Rattle.unroll.proofs.Runs.{can-accepts, reply-none, shown-times, reached-invariant, answers, in-passes, last-started, at-end, final}
 use Rattle.unroll.proofs.Counts.{counts, ends, completes}
 
 module _ (S : System) (can : Decides S) (W : WritersMade S) where
-  progress : (l : List Call) (a : ℕ) → a < S .items → (reached S can l) .finished a < S .passes a → (c : Call) × (v : ℕ) × (reply S can (reached S can l) c ≡ some v)
+  progress : (l : List Call) (a : ℕ) → a < S .items → (reached S can l) .finished a < S .passes a → (c : Call) × (v : ℕ) × (replyAfter S can l c ≡ some v)
   progress l a la m =
       elim (end-or-can S (reached S can l) (reached-invariant S can W l)) [
         | inl e ↦ absurd (omega (arith, e a la))
@@ -35,7 +35,7 @@ module _ (S : System) (can : Decides S) (W : WritersMade S) where
         last-started = last-started S can W;
         refused = λ l. reply-none S can (reached S can l);
         progress = progress;
-        over = over S can W;
+        at-end = at-end S can W;
         completes = completes S can W;
         counts = counts S can;
         ends = ends S can W;

@@ -3,7 +3,7 @@ use Prim.Native.Nat.{ℕ, suc, _+_, _*_, _≤_, _<_}
 use mathlib.Core.Path.{_≡_}
 use mathlib.Core.Logic.{_⊎_, _↔_}
 use mathlib.Core.List.{List, _++_}
-use mathlib.Core.Option.{none, some}
+use mathlib.Core.Option.{Option, none, some}
 use lib.ListN.{length}
 use Rattle.finite.specs.Below.{sumBelow}
 use Rattle.unroll.specs.Instances.{Before}
@@ -19,14 +19,15 @@ module _ (S : System) where
     pub same-or-next : (p a q b : ℕ) → Dependence S p a q b → (q ≡ p) ⊎ (q ≡ suc p)
     pub distance : (a b d : ℕ) → Edge S a b d → d ≤ 1
     -- two items that write nothing they both access have none between them
-    pub only-readers : (a b d : ℕ) → (a ≡ b → ⊥) → ((x : ℕ) → Accesses S a x → Accesses S b x → (Writes S a x → ⊥) × (Writes S b x → ⊥)) → Edge S a b d → ⊥
+    pub only-readers : (a b d : ℕ) → (a ≡ b → ⊥) →
+        ((x : ℕ) → Accesses S a x → Accesses S b x → (Writes S a x → ⊥) × (Writes S b x → ⊥)) → Edge S a b d → ⊥
 
   -- all items have the same passes, as the paper's have
   abbrev pub EqualPasses : Type 0
   EqualPasses = (a b : ℕ) → a < S .items → b < S .items → S .passes a ≡ S .passes b
 
-  -- the paper's words for a start of item a in its next pass: every edge into a at distance 0 has its source finished in that pass, and
-  -- every one at distance 1 in the pass before, if there is one
+  -- the paper's words for a start of item a in its next pass: every edge into a at distance 0 has its source finished in that pass,
+  -- and every one at distance 1 in the pass before, if there is one
   pub record StartRule (s : State) (a : ℕ) : Type 0 where
     pub in-range : a < S .items
     pub left : s .finished a < S .passes a
@@ -34,9 +35,11 @@ module _ (S : System) where
     pub same-pass : (b : ℕ) → Edge S b a 0 → s .started a < s .finished b
     pub pass-before : (b p : ℕ) → Edge S b a 1 → s .started a ≡ suc p → p < s .finished b
 
-  -- what is assumed where passes differ from item to item: a place that a made instance accesses has no writer before it that is not made
+  -- what is assumed where passes differ from item to item: a place that a made instance accesses has no writer before it that is not
+  -- made
   abbrev pub WritersMade : Type 0
-  WritersMade = (p b q a x : ℕ) → b < S .items → a < S .items → Before p b q a → Writes S b x → Accesses S a x → q < S .passes a → p < S .passes b
+  WritersMade = (p b q a x : ℕ) → b < S .items → a < S .items → Before p b q a → Writes S b x → Accesses S a x →
+      q < S .passes a → p < S .passes b
 
   -- no item has a pass left
   abbrev pub End : State → Type 0
@@ -54,47 +57,56 @@ module _ (S : System) where
     pub places : (a x : ℕ) → a < S .items → Accesses S a x → s .places x ≡ t .places x
 
 module _ (S : System) (can : Decides S) where
-  -- the state after a list of calls from the opening
+  -- the state after a list of calls from the opening, and what one more call is answered
   abbrev pub reached : List Call → State
   reached l = run S can (opening S) l
 
-  -- how many calls of the list are accepted; how many that are alike, as the starts of one item
+  abbrev pub replyAfter : List Call → Call → Option ℕ
+  replyAfter l c = reply S can (reached l) c
+
+  -- how many calls of the list are accepted; how many of those are like c, as the starts of one item
   abbrev pub steps : List Call → ℕ
   steps l = accepted S can every (opening S) l
 
   abbrev pub times : Call → List Call → ℕ
   times c l = accepted S can (alike c) (opening S) l
 
-  -- demand 3 with the items in order for the loop: l is any list of calls from the opening, refused ones included, and so any first part of one
+  -- demand 3, with the items in order in the place of the loop. l is any list of calls from the opening, refused ones included, and so
+  -- the calls before c in any list
   pub record AnyOrder : Type 0 where
     -- the counts are of accepted starts and finishes
     pub starts : (l : List Call) (a : ℕ) → (reached l) .started a ≡ times (start a) l
     pub finishes : (l : List Call) (a : ℕ) → (reached l) .finished a ≡ times (finish a) l
     -- the accepted starts of an item answer its words in passes 0, 1, 2 and on, and so do its finishes
-    pub answers : (l : List Call) (c : Call) (v : ℕ) → reply S can (reached l) c ≡ some v → v ≡ word S (times c l) (item c)
+    pub answers : (l : List Call) (c : Call) (v : ℕ) → replyAfter l c ≡ some v → v ≡ word S (times c l) (item c)
     -- an accepted call is of an item, in one of its passes; an accepted finish belongs to the pass last started
-    pub in-passes : (l : List Call) (c : Call) (v : ℕ) → reply S can (reached l) c ≡ some v → (item c < S .items) × (times c l < S .passes (item c))
-    pub last-started : (l : List Call) (a v : ℕ) → reply S can (reached l) (finish a) ≡ some v → times (start a) l ≡ suc (times (finish a) l)
+    pub in-passes : (l : List Call) (c : Call) (v : ℕ) → replyAfter l c ≡ some v →
+        (item c < S .items) × (times c l < S .passes (item c))
+    pub last-started : (l : List Call) (a v : ℕ) → replyAfter l (finish a) ≡ some v → times (start a) l ≡ suc (times (finish a) l)
     -- a refused call changes nothing
-    pub refused : (l : List Call) (c : Call) → reply S can (reached l) c ≡ none → step S can (reached l) c ≡ reached l
+    pub refused : (l : List Call) (c : Call) → replyAfter l c ≡ none → step S can (reached l) c ≡ reached l
     -- while an item has a pass left, some step is accepted; at the end none is
-    pub progress : (l : List Call) (a : ℕ) → a < S .items → (reached l) .finished a < S .passes a → (c : Call) × (v : ℕ) × (reply S can (reached l) c ≡ some v)
-    pub over : (l : List Call) (c : Call) → End S (reached l) → reply S can (reached l) c ≡ none
+    pub progress : (l : List Call) (a : ℕ) → a < S .items → (reached l) .finished a < S .passes a →
+        (c : Call) × (v : ℕ) × (replyAfter l c ≡ some v)
+    pub at-end : (l : List Call) (c : Call) → End S (reached l) → replyAfter l c ≡ none
     -- accepted steps lead on to the end
     pub completes : (l : List Call) → (k : List Call) × (accepted S can every (reached l) k ≡ length k) × End S (reached (l ++ k))
     -- the accepted steps are those that the counts show, and the end is reached exactly when they are two for each pass of each item
     pub counts : (l : List Call) → steps l ≡ sumBelow (S .items) (λ a. (reached l) .started a + (reached l) .finished a)
     pub ends : (l : List Call) → End S (reached l) ↔ (steps l ≡ allSteps S)
     -- at the end the places hold what the items in order leave, after as many passes as the longest item has
-    pub final : (l : List Call) → End S (reached l) → (p : ℕ) → ((a : ℕ) → a < S .items → S .passes a ≤ p) → (x : ℕ) → (reached l) .places x ≡ storeAt S p 0 x
+    pub final : (l : List Call) → End S (reached l) → (p : ℕ) → ((a : ℕ) → a < S .items → S .passes a ≤ p) →
+        (x : ℕ) → (reached l) .places x ≡ storeAt S p 0 x
 
 pub record Laws : Type 0 where
   pub edges : (S : System) → EdgeLaws S
   -- acceptance can be tested, and every test makes the same machine
   pub decides : (S : System) → Decides S
-  pub same-machine : (S : System) (can can′ : Decides S) (s : State) (c : Call) → (reply S can s c ≡ reply S can′ s c) × (step S can s c ≡ step S can′ s c)
+  pub same-machine : (S : System) (can can′ : Decides S) (s : State) (c : Call) →
+      (reply S can s c ≡ reply S can′ s c) × (step S can s c ≡ step S can′ s c)
   -- what the items do not use has no part in it
-  pub local : (S : System) (can : Decides S) (s t : State) (c : Call) → Agree S s t → (reply S can s c ≡ reply S can t c) × Agree S (step S can s c) (step S can t c)
+  pub local : (S : System) (can : Decides S) (s t : State) (c : Call) → Agree S s t →
+      (reply S can s c ≡ reply S can t c) × Agree S (step S can s c) (step S can t c)
   pub any-order : (S : System) (can : Decides S) → WritersMade S → AnyOrder S can
   -- where all items have the same passes, the assumption holds and a start is accepted by the paper's words
   pub equal-passes : (S : System) → EqualPasses S → WritersMade S
