@@ -68,19 +68,19 @@ module _ (B : Body) where
   words-next p k x e w h = below-suc (λ a. word (system B) p a ≡ loopWord B p (writer (itemAt B a))) k h (w ∙ ap (λ (y : Item). loopWord B p (writer y)) (sym e))
 
   -- before task t in pass p, at item k: copies that are up to date hold the loop's cells
-  pub record Before-task (p t k : ℕ) : Type 0 where
+  pub record BeforeTask (p t k : ℕ) : Type 0 where
     pub copies : (q g : ℕ) → q < B .ranks → g < B .regions → upToDate B (holder B p t g) q g ≡ true → storeAt (system B) p k (copy B q g) ≡ cellsAt B p t g
     pub words : Words p k
 
   -- behind task t in pass p, at item k, with the transfers l left: so do those that no transfer left will bring up to date
-  pub record Behind-task (p t : ℕ) (l : List Transfer) (k : ℕ) : Type 0 where
+  pub record BehindTask (p t : ℕ) (l : List Transfer) (k : ℕ) : Type 0 where
     pub own : (g : ℕ) → mem g (B .writes t) ≡ true → storeAt (system B) p k (copy B (B .rank t) g) ≡ loopWord B p t
     pub copies : (q g : ℕ) → q < B .ranks → g < B .regions → upToDate B (holder B p (suc t) g) q g ≡ true →
         (storeAt (system B) p k (copy B q g) ≡ cellsAt B p (suc t) g) ⊎ In (transfer t g q) l
     pub words : Words p k
 
 module _ (B : Body) (F : Fits B) (p : ℕ) (lp : p < B .passes) (t : ℕ) (lt : t < B .tasks) where
-  task-word : (k : ℕ) → itemAt B k ≡ task t → Before-task B p t k → word (system B) p k ≡ loopWord B p t
+  task-word : (k : ℕ) → itemAt B k ≡ task t → BeforeTask B p t k → word (system B) p k ≡ loopWord B p t
   unfolding loopWord taskWord readsOf computeOf
   task-word k e r =
       word-at B p k (task t) e
@@ -88,7 +88,7 @@ module _ (B : Body) (F : Fits B) (p : ℕ) (lp : p < B .passes) (t : ℕ) (lt : 
       ∙ map-ext (λ g. storeAt (system B) p k (copy B (B .rank t) g)) (cellsAt B p t) (B .reads t)
       (λ g m. r .copies (B .rank t) g (F .rank-below t lt) (F .reads-below t g lt m) (read-up-to-date B p t g lt m)))
 
-  task-own : (k : ℕ) → itemAt B k ≡ task t → Before-task B p t k → (g : ℕ) → mem g (B .writes t) ≡ true → storeAt (system B) p (suc k) (copy B (B .rank t) g) ≡ loopWord B p t
+  task-own : (k : ℕ) → itemAt B k ≡ task t → BeforeTask B p t k → (g : ℕ) → mem g (B .writes t) ≡ true → storeAt (system B) p (suc k) (copy B (B .rank t) g) ≡ loopWord B p t
   unfolding writesOf
   task-own k e r g m = store-in B p k (task t) (copy B (B .rank t) g) e lp (mem-map (copy B (B .rank t)) g (B .writes t) m) ∙ task-word k e r
 
@@ -100,7 +100,7 @@ module _ (B : Body) (F : Fits B) (p : ℕ) (lp : p < B .passes) (t : ℕ) (lt : 
       clash : (h : ℕ) × (mem h (B .writes t) ≡ true) × (copy B q g ≡ copy B (B .rank t) h) → ⊥
       clash (h, w, i) = not-both (subst (λ (z : ℕ). mem z (B .writes t) ≡ true) (sym (copies-apart B q g (B .rank t) h l (F .writes-below t h lt w) i .1)) w) m
 
-  after-task : (k : ℕ) → itemAt B k ≡ task t → Before-task B p t k → Behind-task B p t (transfersOf B t) (suc k)
+  after-task : (k : ℕ) → itemAt B k ≡ task t → BeforeTask B p t k → BehindTask B p t (transfersOf B t) (suc k)
   after-task k e r =
       record {
         own = task-own k e r;
@@ -121,7 +121,7 @@ module _ (B : Body) (F : Fits B) (p : ℕ) (lp : p < B .passes) (t : ℕ) (lt : 
       kept q g lq lg v m = task-other k e q g lg m ∙ (r .copies q g lq lg (rw (holder-kept B p t g m) at v) ∙ sym (cells-kept B p t g m))
 
   -- a send, and then its receive
-  module _ (k g q : ℕ) (l : List Transfer) (m : mem g (B .writes t) ≡ true) (M : Behind-task B p t (transfer t g q ∷ l) k) (es : itemAt B k ≡ send t g q) (er : itemAt B (suc k) ≡ receive t g q) where
+  module _ (k g q : ℕ) (l : List Transfer) (m : mem g (B .writes t) ≡ true) (M : BehindTask B p t (transfer t g q ∷ l) k) (es : itemAt B k ≡ send t g q) (er : itemAt B (suc k) ≡ receive t g q) where
     send-word : word (system B) p k ≡ loopWord B p t
     unfolding readsOf computeOf
     send-word = word-at B p k (send t g q) es ∙ M .own g m
@@ -152,7 +152,7 @@ module _ (B : Body) (F : Fits B) (p : ℕ) (lp : p < B .passes) (t : ℕ) (lt : 
         (mem-cases (copy B r h) (slot (suc k - 1)) (copy B q g ∷ []) w))
         ∙ send-other r h lr lh
 
-    after-transfer : Behind-task B p t l (suc (suc k))
+    after-transfer : BehindTask B p t l (suc (suc k))
     after-transfer =
         record {
           own = λ h w. elim (ℕ-discrete (copy B (B .rank t) h) (copy B q g)) [
@@ -171,8 +171,8 @@ module _ (B : Body) (F : Fits B) (p : ℕ) (lp : p < B .passes) (t : ℕ) (lt : 
         left r h ne (inr w) = w
 
   -- the transfers of the task, one after another
-  after-first : (x : Transfer) (l : List Transfer) (s : List Item) (k : ℕ) → Transferred B t x → At B k (pairOf x ++ flatMap pairOf l ++ s) → Behind-task B p t (x ∷ l) k →
-      At B (suc (suc k)) (flatMap pairOf l ++ s) × Behind-task B p t l (suc (suc k))
+  after-first : (x : Transfer) (l : List Transfer) (s : List Item) (k : ℕ) → Transferred B t x → At B k (pairOf x ++ flatMap pairOf l ++ s) → BehindTask B p t (x ∷ l) k →
+      At B (suc (suc k)) (flatMap pairOf l ++ s) × BehindTask B p t l (suc (suc k))
   after-first x l s k r h M =
       let g = r .region in
       let q = r .target in
@@ -180,44 +180,44 @@ module _ (B : Body) (F : Fits B) (p : ℕ) (lp : p < B .passes) (t : ℕ) (lt : 
       let h₀ : At B k (send t g q ∷ receive t g q ∷ rest) = subst (λ (z : Transfer). At B k (pairOf z ++ flatMap pairOf l ++ s)) (r .same) h in
       let h₁ : At B (suc k) (receive t g q ∷ rest) = at-next B k (send t g q) (receive t g q ∷ rest) h₀ in (
         at-next B (suc k) (receive t g q) rest h₁,
-        after-transfer k g q l (r .written) (subst (λ (z : Transfer). Behind-task B p t (z ∷ l) k) (r .same) M)
+        after-transfer k g q l (r .written) (subst (λ (z : Transfer). BehindTask B p t (z ∷ l) k) (r .same) M)
             (at-item B k (send t g q) (receive t g q ∷ rest) h₀) (at-item B (suc k) (receive t g q) rest h₁),
       )
 
-  after-transfers : (l : List Transfer) (s : List Item) (k : ℕ) → ((x : Transfer) → In x l → Transferred B t x) → At B k (flatMap pairOf l ++ s) → Behind-task B p t l k →
-      (j : ℕ) × At B j s × Behind-task B p t [] j
+  after-transfers : (l : List Transfer) (s : List Item) (k : ℕ) → ((x : Transfer) → In x l → Transferred B t x) → At B k (flatMap pairOf l ++ s) → BehindTask B p t l k →
+      (j : ℕ) × At B j s × BehindTask B p t [] j
   unfolding flatMap
   after-transfers [] s k f h M = (k, h, M)
   after-transfers (x ∷ l) s k f h M =
       let o = after-first x l s k (f x (here refl)) h M in
       after-transfers l s (suc (suc k)) (λ y m. f y (there m)) (o .0) (o .1)
 
-  none-left : (j : ℕ) → Behind-task B p t [] j → Before-task B p (suc t) j
+  none-left : (j : ℕ) → BehindTask B p t [] j → BeforeTask B p (suc t) j
   none-left j M = record { copies = λ q g lq lg v. ⊎-elim (λ e. e) (λ m. absurd (in-nil m)) (M .copies q g lq lg v); words = M .words }
 
-  after-block : (s : List Item) (k : ℕ) → At B k (block B t ++ s) → Before-task B p t k → (j : ℕ) × At B j s × Before-task B p (suc t) j
+  after-block : (s : List Item) (k : ℕ) → At B k (block B t ++ s) → BeforeTask B p t k → (j : ℕ) × At B j s × BeforeTask B p (suc t) j
   after-block s k h r =
       let rest = flatMap pairOf (transfersOf B t) ++ s in
-      let m : (j : ℕ) × At B j s × Behind-task B p t [] j =
+      let m : (j : ℕ) × At B j s × BehindTask B p t [] j =
       after-transfers (transfersOf B t) s (suc k) (transfer-from B t) (at-next B k (task t) rest h) (after-task k (at-item B k (task t) rest h) r) in
       (m .0, m .1, none-left (m .0) (m .2))
 
 module _ (B : Body) (F : Fits B) where
-  after-blocks : (p : ℕ) → p < B .passes → (n t k : ℕ) → t + n ≡ B .tasks → At B k (flatMap (block B) (range t n)) → Before-task B p t k →
-      (j : ℕ) × At B j [] × Before-task B p (B .tasks) j
+  after-blocks : (p : ℕ) → p < B .passes → (n t k : ℕ) → t + n ≡ B .tasks → At B k (flatMap (block B) (range t n)) → BeforeTask B p t k →
+      (j : ℕ) × At B j [] × BeforeTask B p (B .tasks) j
   unfolding flatMap range
-  after-blocks p lp zero t k e h r = (k, h, subst (λ (z : ℕ). Before-task B p z k) (omega arith) r)
+  after-blocks p lp zero t k e h r = (k, h, subst (λ (z : ℕ). BeforeTask B p z k) (omega arith) r)
   after-blocks p lp (suc n) t k e h r =
-      let m : (j : ℕ) × At B j (flatMap (block B) (range (suc t) n)) × Before-task B p (suc t) j = after-block B F p lp t (omega arith) (flatMap (block B) (range (suc t) n)) k h r in
+      let m : (j : ℕ) × At B j (flatMap (block B) (range (suc t) n)) × BeforeTask B p (suc t) j = after-block B F p lp t (omega arith) (flatMap (block B) (range (suc t) n)) k h r in
       after-blocks p lp n (suc t) (m .0) (omega arith) (m .1) (m .2)
 
-  after-pass : (p : ℕ) → p < B .passes → Before-task B p 0 0 → Before-task B p (B .tasks) (itemCount B)
+  after-pass : (p : ℕ) → p < B .passes → BeforeTask B p 0 0 → BeforeTask B p (B .tasks) (itemCount B)
   unfolding itemList
   after-pass p lp r =
-      let m : (j : ℕ) × At B j [] × Before-task B p (B .tasks) j = after-blocks p lp (B .tasks) 0 0 (omega arith) (record { rest = refl; size = omega arith }) r in
-      subst (λ (z : ℕ). Before-task B p (B .tasks) z) (omega (arith, m .1 .size)) (m .2)
+      let m : (j : ℕ) × At B j [] × BeforeTask B p (B .tasks) j = after-blocks p lp (B .tasks) 0 0 (omega arith) (record { rest = refl; size = omega arith }) r in
+      subst (λ (z : ℕ). BeforeTask B p (B .tasks) z) (omega (arith, m .1 .size)) (m .2)
 
-  first-pass : Before-task B 0 0 0
+  first-pass : BeforeTask B 0 0 0
   unfolding cellsAt tasksRun cellsOf
   first-pass =
       record {
@@ -225,7 +225,7 @@ module _ (B : Body) (F : Fits B) where
         words = λ a l. absurd (omega arith);
       }
 
-  next-pass : (p : ℕ) → Before-task B p (B .tasks) (itemCount B) → Before-task B (suc p) 0 0
+  next-pass : (p : ℕ) → BeforeTask B p (B .tasks) (itemCount B) → BeforeTask B (suc p) 0 0
   unfolding cellsAt tasksRun cellsOf
   next-pass p r =
       record {
@@ -233,7 +233,7 @@ module _ (B : Body) (F : Fits B) where
         words = λ a l. absurd (omega arith);
       }
 
-  pub before-pass : (p : ℕ) → p ≤ B .passes → Before-task B p 0 0
+  pub before-pass : (p : ℕ) → p ≤ B .passes → BeforeTask B p 0 0
   before-pass zero l = first-pass
   before-pass (suc p) l = next-pass p (after-pass p l (before-pass p (omega arith)))
 

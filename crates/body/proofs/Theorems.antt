@@ -23,7 +23,8 @@ use Rattle.body.specs.Items.{writer, itemCount, itemAt}
 use Rattle.body.specs.Places.{copy, system, resultFrom, resultOf}
 use Rattle.body.specs.Statement.{Meaning, InOrder, Computes, Laws}
 use Rattle.body.proofs.Writers.{last-writer, no-writer, sources, last-some, last-none}
-use Rattle.body.proofs.ItemList.{tasks-listed, sends-listed, receives-listed, ordered, listed-once, send-then, receive-after}
+use Rattle.body.proofs.ItemList.{tasks-listed, sends-listed, receives-listed}
+use Rattle.body.proofs.ItemOrder.{ordered, listed-once, send-then, receive-after}
 use Rattle.body.proofs.Places.{slots-apart, copies-apart, copy-no-slot, copy-opening, slot-opening, one-rank}
 use Rattle.body.proofs.Holders.{holder, holder-start, up-to-date-own}
 use Rattle.body.proofs.Simulation.{before-pass, words}
