@@ -23,8 +23,8 @@ pub record Body : Type 0 where
 abbrev pub firstSlot : ℕ
 firstSlot = 2048
 
--- the part of what reading sees to that is needed here: ranks and regions within their numbers, no region written twice by one
--- task, and no more copies than places for them
+-- what is assumed of a body, for reading to see to: ranks and regions within their numbers, no region written twice by one task, and
+-- no more copies than places for them
 pub record Fits (B : Body) : Type 0 where
   pub rank-below : (i : ℕ) → i < B .tasks → B .rank i < B .ranks
   pub reads-below : (i g : ℕ) → i < B .tasks → mem g (B .reads i) ≡ true → g < B .regions

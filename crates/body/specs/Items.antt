@@ -32,6 +32,6 @@ module _ (B : Body) where
   abbrev pub itemCount : ℕ
   itemCount = length itemList
 
-  -- item a, for a below the number of items
+  -- item a; beyond the items a task 0 that nothing uses
   unfoldable pub itemAt : ℕ → Item
   itemAt a = getD itemList a (task 0)

@@ -20,8 +20,8 @@ module _ (B : Body) where
   unfoldable pub copy : ℕ → ℕ → ℕ
   copy q g = q * B .regions + g
 
-  -- what item a reads and writes: a task the copies of its rank, a send that of its rank and the slot, a receive the slot and the
-  -- copy of the rank that it goes to. A receive stands right after its send, which is so item a - 1
+  -- what item a reads and writes: a task copies on its rank; a send reads the copy on its rank and writes the slot; a receive reads and
+  -- writes the slot, and writes the copy on the rank that it goes to. A receive stands right after its send, which so is item a - 1
   unfoldable pub readsOf : ℕ → Item → List ℕ
   readsOf a (task i) = map (copy (B .rank i)) (B .reads i)
   readsOf a (send i g q) = copy (B .rank i) g ∷ []
@@ -38,7 +38,7 @@ module _ (B : Body) where
   computeOf (send i g q) l = getD l 0 0
   computeOf (receive i g q) l = getD l 0 0
 
-  -- at the opening every copy holds its starting value, and every slot 0
+  -- at the opening every copy holds its region's starting value, and every slot 0
   unfoldable pub initial : ℕ → ℕ
   initial x = cond (ltb x (B .ranks * B .regions)) (B .starting (x % B .regions)) 0
 

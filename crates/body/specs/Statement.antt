@@ -17,7 +17,7 @@ use Rattle.body.specs.Transfers.{lastBefore, source}
 use Rattle.body.specs.Items.{Item, task, send, receive, writer, itemCount, itemAt}
 use Rattle.body.specs.Places.{slot, copy, initial, system, resultOf}
 
--- the first number in which two lists of numbers differ is less in the first
+-- lexicographic order, of lists of one length
 abbrev pub Less : List ℕ → List ℕ → Type 0
 Less [] m = ⊥
 Less (x ∷ l) [] = ⊥
@@ -30,7 +30,8 @@ module _ (B : Body) where
     pub writes : mem g (B .writes j) ≡ true
     pub last : (k : ℕ) → j < k → k < t → mem g (B .writes k) ≡ false
 
-  -- task j in pass p writes g before task t in pass 1, the first pass that has one before it, and no task instance in between does
+  -- (p, j) is the source of the read of g by task t in pass 1, which stands for every pass but 0: it writes g before (1, t), and no task
+  -- instance in between does
   pub record Source (t g p j : ℕ) : Type 0 where
     pub below : j < B .tasks
     pub writes : mem g (B .writes j) ≡ true
@@ -44,7 +45,7 @@ module _ (B : Body) where
     pub reads : mem g (B .reads t) ≡ true
     pub sourced : source B t g ≡ some i
 
-  -- there is a transfer for writer i, region g and rank q other than i's rank exactly if some task on q reads g with source i
+  -- the paper's condition for a transfer of writer i, region g and rank q
   pub record IsTransfer (i g q : ℕ) : Type 0 where
     pub below : i < B .tasks
     pub writes : mem g (B .writes i) ≡ true
@@ -66,7 +67,7 @@ module _ (B : Body) where
     pub last-writer : (t g j : ℕ) → (lastBefore B t g ≡ some j) ↔ LastWriter t g j
     pub no-writer : (t g : ℕ) → (lastBefore B t g ≡ none) ↔ ((k : ℕ) → k < t → mem g (B .writes k) ≡ false)
     pub sources : (t g j : ℕ) → t < B .tasks → (source B t g ≡ some j) ↔ ((p : ℕ) × Source t g p j)
-    -- the items and their order; that each stands once, and a receive right after its send, are consequences
+    -- the items and their order; that each stands once, and a receive right after its send, follows
     pub tasks-listed : (i : ℕ) → Listed (task i) ↔ (i < B .tasks)
     pub sends-listed : (i g q : ℕ) → Listed (send i g q) ↔ IsTransfer i g q
     pub receives-listed : (i g q : ℕ) → Listed (receive i g q) ↔ IsTransfer i g q
@@ -91,6 +92,7 @@ module _ (B : Body) where
     pub words : (p a : ℕ) → p < B .passes → a < itemCount B → word (system B) p a ≡ loopWord B p (writer (itemAt B a))
     pub written : (g j : ℕ) → g < B .regions → lastBefore B (B .tasks) g ≡ some j →
         storeAt (system B) (B .passes) 0 (copy B (B .rank j) g) ≡ loopFinal B g
+    -- of the loop alone
     pub unwritten : (g : ℕ) → lastBefore B (B .tasks) g ≡ none → loopFinal B g ≡ B .starting g
     pub no-pass : (g : ℕ) → B .passes ≡ 0 → loopFinal B g ≡ B .starting g
 

@@ -12,9 +12,10 @@ use Rattle.body.specs.Body.{Body}
 pub data Transfer : Type 0 where
   transfer : (i g q : ℕ) → Transfer
 
-abbrev pub isTask : Option ℕ → ℕ → Bool
-isTask none i = false
-isTask (some j) i = eqb j i
+-- the option is some i
+abbrev pub equals : Option ℕ → ℕ → Bool
+equals none i = false
+equals (some j) i = eqb j i
 
 module _ (B : Body) where
   -- the last writer of region g among the tasks 0 .. t-1
@@ -22,13 +23,14 @@ module _ (B : Body) where
   lastBefore zero g = none
   lastBefore (suc t) g = cond (mem g (B .writes t)) (some t) (lastBefore t g)
 
-  -- the source of task t's read of region g: its last writer before the read, going back into the previous pass where needed
+  -- the source of task t's read of region g: its last writer before the read, going back into the previous pass where needed; none
+  -- where no task writes g
   unfoldable pub source : ℕ → ℕ → Option ℕ
   source t g = orElse (lastBefore t g) (lastBefore (B .tasks) g)
 
   -- some task on rank q reads region g with source i
   unfoldable pub wanted : ℕ → ℕ → ℕ → Bool
-  wanted i g q = anyBelow (B .tasks) (λ t. eqb (B .rank t) q && (mem g (B .reads t) && isTask (source t g) i))
+  wanted i g q = anyBelow (B .tasks) (λ t. eqb (B .rank t) q && (mem g (B .reads t) && equals (source t g) i))
 
   -- for writer i, region g and rank q there is a transfer: q is another rank, and wants the word
   unfoldable pub transferred : ℕ → ℕ → ℕ → Bool

@@ -6,12 +6,16 @@ use lib.Dec.{eqb}
 use lib.ListN.{set}
 use Rattle.finite.specs.Lists.{mem}
 
+-- a word for each number
+abbrev pub Store : Type 0
+Store = ℕ → ℕ
+
 -- f with v at a
-unfoldable pub update : (ℕ → ℕ) → ℕ → ℕ → ℕ → ℕ
+unfoldable pub update : Store → ℕ → ℕ → Store
 update f a v b = cond (eqb b a) v (f b)
 
 -- f with v at each number of the list
-unfoldable pub put : List ℕ → ℕ → (ℕ → ℕ) → ℕ → ℕ
+unfoldable pub put : List ℕ → ℕ → Store → Store
 put l v f x = cond (mem x l) v (f x)
 
 -- the list xs with v at f k for each k below n of which p holds

@@ -10,7 +10,7 @@ use Rattle.finite.specs.Update.{update}
 use Rattle.finite.proofs.Below.{sum-const, sum-ext, sum-le, sum-tight, sum-suc}
 use Rattle.finite.proofs.Update.{update-same, update-other}
 use Rattle.unroll.specs.System.{System}
-use Rattle.unroll.specs.Machine.{State, Call, start, finish, every, opening, Can, after, startState, finishState, Decides, step, run, accepted}
+use Rattle.unroll.specs.Machine.{State, Call, start, finish, anyCall, opening, Can, after, startState, finishState, Decides, step, run, accepted}
 use Rattle.unroll.specs.Statement.{WritersMade, End, allSteps, reached, steps}
 use Rattle.unroll.proofs.Invariant.{Invariant}
 use Rattle.unroll.proofs.Progress.{end-or-can}
@@ -55,7 +55,7 @@ module _ (S : System) where
       )
 
 module _ (S : System) (can : Decides S) where
-  total-run : (s : State) (l : List Call) → total S (run S can s l) ≡ total S s + accepted S can every s l
+  total-run : (s : State) (l : List Call) → total S (run S can s l) ≡ total S s + accepted S can anyCall s l
   unfolding run accepted
   total-run s [] = omega arith
   total-run s (c ∷ l) =
@@ -75,7 +75,7 @@ module _ (S : System) (can : Decides S) where
 
     -- accepted calls from s to the end
     abbrev Leads : State → Type 0
-    Leads s = (k : List Call) × (accepted S can every s k ≡ length k) × End S (run S can s k)
+    Leads s = (k : List Call) × (accepted S can anyCall s k ≡ length k) × End S (run S can s k)
 
     lead-step : (s : State) (c : Call) → Can S s c → Leads (step S can s c) → Leads s
     unfolding run accepted
@@ -92,8 +92,8 @@ module _ (S : System) (can : Decides S) where
               (leads m (step S can s (p .0)) (step-invariant S can W s (p .0) i) (omega (arith, ap (total S) (can-steps S can s (p .0) (p .1)), total-after S s (p .0) (p .1))))
         ]
 
-    pub completes : (l : List Call) → (k : List Call) × (accepted S can every (reached S can l) k ≡ length k) × End S (reached S can (l ++ k))
+    pub completes : (l : List Call) → (k : List Call) × (accepted S can anyCall (reached S can l) k ≡ length k) × End S (reached S can (l ++ k))
     completes l = go (leads (allSteps S) (reached S can l) (reached-invariant S can W l) (omega arith))
       where
-        go : Leads (reached S can l) → (k : List Call) × (accepted S can every (reached S can l) k ≡ length k) × End S (reached S can (l ++ k))
+        go : Leads (reached S can l) → (k : List Call) × (accepted S can anyCall (reached S can l) k ≡ length k) × End S (reached S can (l ++ k))
         go (k, n, e) = (k, n, rw (run-append S can (opening S) l k) e)

@@ -8,11 +8,15 @@ use mathlib.Core.Option.{none, some, Option·some-injective, Option·none-ne-som
 use native.Mathlib.Omega.{arith}
 use borrow.Author.Tests.{eqb-true}
 use lib.Dec.{eqb}
+use lib.ListN.{length, getD}
+use Rattle.finite.specs.Lists.{mem}
 use Rattle.finite.specs.Update.{update}
+use Rattle.finite.proofs.Tests.{false-of}
+use Rattle.finite.proofs.Update.{put-in, put-out}
 use Rattle.unroll.specs.System.{System}
 use Rattle.unroll.specs.Sequential.{storeAt, word}
-use Rattle.unroll.specs.Machine.{State, Call, start, finish, item, alike, opening, Can, after, answer, startState, finishState, Decides, reply, step, run, accepted}
-use Rattle.unroll.specs.Statement.{WritersMade, End, reached, replyAfter, times}
+use Rattle.unroll.specs.Machine.{State, Call, start, finish, item, alike, opening, Can, after, answer, startState, finishState, Decides, reply, step, run, replies, accepted}
+use Rattle.unroll.specs.Statement.{Started, Finished, WritersMade, End, reached, replyAfter, times}
 use Rattle.unroll.proofs.Instances.{before-pass}
 use Rattle.unroll.proofs.Invariant.{Invariant, opening-invariant, start-invariant, finish-invariant, start-word}
 
@@ -56,6 +60,35 @@ module _ (S : System) (can : Decides S) where
       go : (d : Dec (Can S s c)) → ite d (some (answer S s c)) none ≡ none → ite d (after S s c) s ≡ s
       go (yes h) e = absurd (Option·none-ne-some (answer S s c) (sym e))
       go (no f) e = refl
+
+  pub start-changes : (s : State) (a v : ℕ) → reply S can s (start a) ≡ some v → Started S s (step S can s (start a)) a v
+  unfolding startState
+  start-changes s a v e =
+      let h : Can S s (start a) × (answer S s (start a) ≡ v) = reply-some s (start a) v e in
+      rw (can-steps s (start a) (h .0), ← (h .1))
+      (record { counted = λ b. refl; finished = λ b. refl; places = λ x. refl; held = λ b. refl })
+
+  pub finish-changes : (s : State) (a v : ℕ) → reply S can s (finish a) ≡ some v → Finished S s (step S can s (finish a)) a v
+  unfolding finishState
+  finish-changes s a v e =
+      let h : Can S s (finish a) × (answer S s (finish a) ≡ v) = reply-some s (finish a) v e in
+      rw (can-steps s (finish a) (h .0), ← (h .1))
+      (record {
+        word = refl;
+        started = λ b. refl;
+        counted = λ b. refl;
+        written = λ x w. put-in (S .writes a) _ _ x w;
+        unwritten = λ x f. put-out (S .writes a) _ _ x (false-of (mem x (S .writes a)) f);
+        held = λ b. refl;
+      })
+
+  replies-from : (s : State) (l : List Call) (c : Call) (k : List Call) → getD (replies S can s (l ++ (c ∷ k))) (length l) none ≡ reply S can (run S can s l) c
+  unfolding run replies
+  replies-from s [] c k = refl
+  replies-from s (d ∷ l) c k = replies-from (step S can s d) l c k
+
+  pub replies-at : (l : List Call) (c : Call) (k : List Call) → getD (replies S can (opening S) (l ++ (c ∷ k))) (length l) none ≡ replyAfter S can l c
+  replies-at = replies-from (opening S)
 
   pub run-append : (s : State) (l k : List Call) → run S can s (l ++ k) ≡ run S can (run S can s l) k
   unfolding run

@@ -14,7 +14,7 @@ use Rattle.unroll.proofs.Edges.{edge-from, edge-distance, edge-laws}
 use Rattle.unroll.proofs.Decide.{decides}
 use Rattle.unroll.proofs.Local.{same-machine, local}
 use Rattle.unroll.proofs.Progress.{end-or-can}
-use Rattle.unroll.proofs.Runs.{can-accepts, reply-none, shown-times, reached-invariant, answers, in-passes, last-started, at-end, final}
+use Rattle.unroll.proofs.Runs.{can-accepts, reply-none, start-changes, finish-changes, replies-at, shown-times, reached-invariant, answers, in-passes, last-started, at-end, final}
 use Rattle.unroll.proofs.Counts.{counts, ends, completes}
 
 module _ (S : System) (can : Decides S) (W : WritersMade S) where
@@ -70,4 +70,4 @@ module _ (S : System) (E : EqualPasses S) where
   start-rule s a = (rule-start s a, λ r. record { in-range = r .in-range; left = r .left; idle = r .idle; ready = start-ready s a r })
 
 pub laws : Laws
-laws = record { edges = edge-laws; decides = decides; same-machine = same-machine; local = local; any-order = any-order; equal-passes = equal-passes; start-rule = start-rule }
+laws = record { edges = edge-laws; decides = decides; same-machine = same-machine; local = local; start-changes = start-changes; finish-changes = finish-changes; replies-at = replies-at; any-order = any-order; equal-passes = equal-passes; start-rule = start-rule }

@@ -12,7 +12,7 @@ module _ (S : System) where
     pub second : Accesses S b x
     pub one-writes : Writes S a x ⊎ Writes S b x
 
-  -- no item instance strictly between (p, a) and (q, b) writes x: all passes are unrolled, whichever number the loop has
+  -- no item instance strictly between (p, a) and (q, b) writes x; r runs over all passes, whichever number the loop has
   abbrev pub Unwritten : ℕ → ℕ → ℕ → ℕ → ℕ → Type 0
   Unwritten x p a q b = (r c : ℕ) → c < S .items → Before p a r c → Before r c q b → Writes S c x → ⊥
 

@@ -1,5 +1,5 @@
--- The step machine (paper 01, "Steps"): which calls are accepted, what they answer and change, and lists of calls. States out of form
--- (refusal 12) are turned away before the machine sees them.
+-- The step machine (paper 01, "Steps"): which calls are accepted, what they answer and change, and lists of calls. Acceptance is
+-- defined in every state; a state out of form is for the layer that holds the counts to refuse (refusal 12).
 use Prim.Native.Nat.{ℕ, suc, _+_, _≤_, _<_}
 use mathlib.Core.Path.{_≡_}
 use mathlib.Core.Bool.{Bool, true, false, cond}
@@ -7,7 +7,7 @@ use mathlib.Core.List.{List, [], _∷_}
 use mathlib.Core.Logic.{_⊎_, ite}
 use mathlib.Core.Option.{Option, none, some}
 use lib.Dec.{eqb}
-use Rattle.finite.specs.Update.{update, put}
+use Rattle.finite.specs.Update.{Store, update, put}
 use Rattle.unroll.specs.System.{System}
 use Rattle.unroll.specs.Sequential.{wordOn}
 use Rattle.unroll.specs.Edges.{Edge}
@@ -16,7 +16,7 @@ use Rattle.unroll.specs.Edges.{Edge}
 pub record State : Type 0 where
   pub started : ℕ → ℕ
   pub finished : ℕ → ℕ
-  pub places : ℕ → ℕ
+  pub places : Store
   pub held : ℕ → ℕ
 
 pub data Call : Type 0 where
@@ -34,8 +34,9 @@ alike (start a) (finish b) = false
 alike (finish a) (start b) = false
 alike (finish a) (finish b) = eqb a b
 
-abbrev pub every : Call → Bool
-every c = true
+-- picks every call
+abbrev pub anyCall : Call → Bool
+anyCall c = true
 
 module _ (S : System) where
   unfoldable pub opening : State
@@ -46,8 +47,8 @@ module _ (S : System) where
   abbrev pub Met : State → ℕ → ℕ → Type 0
   Met s b p = (p < s .finished b) ⊎ (S .passes b ≤ p)
 
-  -- a start is accepted when the item has a pass left and does not run, and each edge into its next pass has its source finished;
-  -- an edge that comes from before pass 0 has none
+  -- a start is accepted when the item has a pass left and does not run, and each edge into its next pass has its source finished. The
+  -- source's pass is p where p + d is the item's next pass; where there is no such p, there is nothing to wait for
   pub record CanStart (s : State) (a : ℕ) : Type 0 where
     pub in-range : a < S .items
     pub left : s .finished a < S .passes a
@@ -113,7 +114,7 @@ module _ (S : System) (can : Decides S) where
   replies s [] = []
   replies s (c ∷ l) = reply s c ∷ replies (step s c) l
 
-  -- how many calls of the list are accepted, of those that the test picks
+  -- how many of the calls that t picks are accepted
   unfoldable pub accepted : (Call → Bool) → State → List Call → ℕ
   accepted t s [] = 0
   accepted t s (c ∷ l) = ite (can s c) (cond (t c) 1 0) 0 + accepted t (step s c) l

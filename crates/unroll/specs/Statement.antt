@@ -2,15 +2,16 @@
 use Prim.Native.Nat.{ℕ, suc, _+_, _*_, _≤_, _<_}
 use mathlib.Core.Path.{_≡_}
 use mathlib.Core.Logic.{_⊎_, _↔_}
-use mathlib.Core.List.{List, _++_}
+use mathlib.Core.List.{List, _∷_, _++_}
 use mathlib.Core.Option.{Option, none, some}
-use lib.ListN.{length}
+use lib.ListN.{length, getD}
 use Rattle.finite.specs.Below.{sumBelow}
+use Rattle.finite.specs.Update.{update}
 use Rattle.unroll.specs.Instances.{Before}
 use Rattle.unroll.specs.System.{System, Writes, Accesses}
 use Rattle.unroll.specs.Sequential.{storeAt, word}
 use Rattle.unroll.specs.Edges.{Dependence, Edge}
-use Rattle.unroll.specs.Machine.{State, Call, start, finish, item, alike, every, opening, CanStart, Decides, reply, step, run, accepted}
+use Rattle.unroll.specs.Machine.{State, Call, start, finish, item, alike, anyCall, opening, CanStart, Decides, reply, step, run, replies, accepted}
 
 module _ (S : System) where
   -- the rule's edges are the same from every pass on, and no other distance than 0 and 1 occurs
@@ -18,7 +19,7 @@ module _ (S : System) where
     pub every-pass : (k p a q b : ℕ) → Dependence S p a q b ↔ Dependence S (k + p) a (k + q) b
     pub same-or-next : (p a q b : ℕ) → Dependence S p a q b → (q ≡ p) ⊎ (q ≡ suc p)
     pub distance : (a b d : ℕ) → Edge S a b d → d ≤ 1
-    -- two items that write nothing they both access have none between them
+    -- two items that write nothing they both access have no edge between them
     pub only-readers : (a b d : ℕ) → (a ≡ b → ⊥) →
         ((x : ℕ) → Accesses S a x → Accesses S b x → (Writes S a x → ⊥) × (Writes S b x → ⊥)) → Edge S a b d → ⊥
 
@@ -26,8 +27,8 @@ module _ (S : System) where
   abbrev pub EqualPasses : Type 0
   EqualPasses = (a b : ℕ) → a < S .items → b < S .items → S .passes a ≡ S .passes b
 
-  -- the paper's words for a start of item a in its next pass: every edge into a at distance 0 has its source finished in that pass,
-  -- and every one at distance 1 in the pass before, if there is one
+  -- the paper's words for a start of item a in its next pass: the item has a pass left and does not run, every edge into a at distance 0
+  -- has its source finished in that pass, and every one at distance 1 in the pass before, if there is one
   pub record StartRule (s : State) (a : ℕ) : Type 0 where
     pub in-range : a < S .items
     pub left : s .finished a < S .passes a
@@ -38,8 +39,8 @@ module _ (S : System) where
   -- what is assumed where passes differ from item to item: a place that a made instance accesses has no writer before it that is not
   -- made
   abbrev pub WritersMade : Type 0
-  WritersMade = (p b q a x : ℕ) → b < S .items → a < S .items → Before p b q a → Writes S b x → Accesses S a x →
-      q < S .passes a → p < S .passes b
+  WritersMade = (p a q b x : ℕ) → a < S .items → b < S .items → Before p a q b → Writes S a x → Accesses S b x →
+      q < S .passes b → p < S .passes a
 
   -- no item has a pass left
   abbrev pub End : State → Type 0
@@ -56,6 +57,22 @@ module _ (S : System) where
     pub held : (a : ℕ) → a < S .items → s .held a ≡ t .held a
     pub places : (a x : ℕ) → a < S .items → Accesses S a x → s .places x ≡ t .places x
 
+  -- from s to t an accepted start of item a, answered v, counts it and holds v, and changes nothing else
+  pub record Started (s t : State) (a v : ℕ) : Type 0 where
+    pub counted : (b : ℕ) → t .started b ≡ update (s .started) a (suc (s .started a)) b
+    pub finished : (b : ℕ) → t .finished b ≡ s .finished b
+    pub places : (x : ℕ) → t .places x ≡ s .places x
+    pub held : (b : ℕ) → t .held b ≡ update (s .held) a v b
+
+  -- an accepted finish counts it and writes v, the word held, to the item's places, and changes nothing else
+  pub record Finished (s t : State) (a v : ℕ) : Type 0 where
+    pub word : v ≡ s .held a
+    pub started : (b : ℕ) → t .started b ≡ s .started b
+    pub counted : (b : ℕ) → t .finished b ≡ update (s .finished) a (suc (s .finished a)) b
+    pub written : (x : ℕ) → Writes S a x → t .places x ≡ v
+    pub unwritten : (x : ℕ) → (Writes S a x → ⊥) → t .places x ≡ s .places x
+    pub held : (b : ℕ) → t .held b ≡ s .held b
+
 module _ (S : System) (can : Decides S) where
   -- the state after a list of calls from the opening, and what one more call is answered
   abbrev pub reached : List Call → State
@@ -64,15 +81,16 @@ module _ (S : System) (can : Decides S) where
   abbrev pub replyAfter : List Call → Call → Option ℕ
   replyAfter l c = reply S can (reached l) c
 
-  -- how many calls of the list are accepted; how many of those are like c, as the starts of one item
+  -- how many calls of the list are accepted
   abbrev pub steps : List Call → ℕ
-  steps l = accepted S can every (opening S) l
+  steps l = accepted S can anyCall (opening S) l
 
+  -- how many calls of c's kind and item are: so the pass of c, where c is accepted after the list
   abbrev pub times : Call → List Call → ℕ
   times c l = accepted S can (alike c) (opening S) l
 
-  -- demand 3, with the items in order in the place of the loop. l is any list of calls from the opening, refused ones included, and so
-  -- the calls before c in any list
+  -- demand 3, with the items in order in the place of the loop. Each field speaks of a state after any list l of calls from the opening,
+  -- refused ones included, and so of every call of any list (Laws .replies-at)
   pub record AnyOrder : Type 0 where
     -- the counts are of accepted starts and finishes
     pub starts : (l : List Call) (a : ℕ) → (reached l) .started a ≡ times (start a) l
@@ -89,12 +107,12 @@ module _ (S : System) (can : Decides S) where
     pub progress : (l : List Call) (a : ℕ) → a < S .items → (reached l) .finished a < S .passes a →
         (c : Call) × (v : ℕ) × (replyAfter l c ≡ some v)
     pub at-end : (l : List Call) (c : Call) → End S (reached l) → replyAfter l c ≡ none
-    -- accepted steps lead on to the end
-    pub completes : (l : List Call) → (k : List Call) × (accepted S can every (reached l) k ≡ length k) × End S (reached (l ++ k))
+    -- some list of accepted steps leads on to the end
+    pub completes : (l : List Call) → (k : List Call) × (accepted S can anyCall (reached l) k ≡ length k) × End S (reached (l ++ k))
     -- the accepted steps are those that the counts show, and the end is reached exactly when they are two for each pass of each item
     pub counts : (l : List Call) → steps l ≡ sumBelow (S .items) (λ a. (reached l) .started a + (reached l) .finished a)
     pub ends : (l : List Call) → End S (reached l) ↔ (steps l ≡ allSteps S)
-    -- at the end the places hold what the items in order leave, after as many passes as the longest item has
+    -- at the end the places hold what the items in order leave after p passes, p at least the passes of each item
     pub final : (l : List Call) → End S (reached l) → (p : ℕ) → ((a : ℕ) → a < S .items → S .passes a ≤ p) →
         (x : ℕ) → (reached l) .places x ≡ storeAt S p 0 x
 
@@ -104,9 +122,17 @@ pub record Laws : Type 0 where
   pub decides : (S : System) → Decides S
   pub same-machine : (S : System) (can can′ : Decides S) (s : State) (c : Call) →
       (reply S can s c ≡ reply S can′ s c) × (step S can s c ≡ step S can′ s c)
-  -- what the items do not use has no part in it
+  -- answers and changes depend on the counts and held words of items and on the places that items access, and on nothing else
   pub local : (S : System) (can : Decides S) (s t : State) (c : Call) → Agree S s t →
       (reply S can s c ≡ reply S can t c) × Agree S (step S can s c) (step S can t c)
+  -- what a call changes, in every state
+  pub start-changes : (S : System) (can : Decides S) (s : State) (a v : ℕ) → reply S can s (start a) ≡ some v →
+      Started S s (step S can s (start a)) a v
+  pub finish-changes : (S : System) (can : Decides S) (s : State) (a v : ℕ) → reply S can s (finish a) ≡ some v →
+      Finished S s (step S can s (finish a)) a v
+  -- what a list of calls is answered, call by call
+  pub replies-at : (S : System) (can : Decides S) (l : List Call) (c : Call) (k : List Call) →
+      getD (replies S can (opening S) (l ++ (c ∷ k))) (length l) none ≡ replyAfter S can l c
   pub any-order : (S : System) (can : Decides S) → WritersMade S → AnyOrder S can
   -- where all items have the same passes, the assumption holds and a start is accepted by the paper's words
   pub equal-passes : (S : System) → EqualPasses S → WritersMade S
