@@ -11,7 +11,7 @@ use Rattle.finite.proofs.Members.{in-flatMap, in-flatMap-from, in-at, at-in}
 use Rattle.body.specs.Body.{Body}
 use Rattle.body.specs.Transfers.{Transfer, transfer, transfersOf}
 use Rattle.body.specs.Items.{Item, task, send, receive, pairOf, block, itemList, itemAt}
-use Rattle.body.specs.Statement.{IsTransfer, Listed}
+use Rattle.body.specs.Meaning.{IsTransfer, Listed}
 use Rattle.body.proofs.Writers.{Transferred, transfer-from, is-transfer, transfer-is}
 
 pub in-pair : (x : Item) (i g q : ℕ) → In x (pairOf (transfer i g q)) → (x ≡ send i g q) ⊎ (x ≡ receive i g q)

@@ -13,7 +13,7 @@ use Rattle.finite.proofs.Sorted.{Sorted, sorted-at, sorted-flatMap, sorted-gath
 use Rattle.body.specs.Body.{Body, Fits}
 use Rattle.body.specs.Transfers.{Transfer, transfer, transferred, transfersOf}
 use Rattle.body.specs.Items.{Item, task, send, receive, pairOf, block, itemList, itemCount, itemAt}
-use Rattle.body.specs.Statement.{Less, Listed, key}
+use Rattle.body.specs.Meaning.{Less, Listed, key}
 use Rattle.body.proofs.Writers.{Transferred, transfer-from}
 use Rattle.body.proofs.ItemList.{in-pair, InBlock, itself, sends, receives, in-block, sends-listed, receives-listed}
 

@@ -1,4 +1,4 @@
--- The statements of specs/Statement.antt, proved.
+-- The statements of specs/Meaning.antt and specs/Computes.antt, proved.
 use Prim.Native.Nat.{ℕ, zero, suc, _*_, _<_}
 use mathlib.Core.Path.{_≡_, refl, sym, _∙_, ap}
 use mathlib.Core.Bool.{Bool, true, false, cond}
@@ -14,14 +14,15 @@ use Rattle.finite.proofs.Below.{sum-const}
 use Rattle.finite.proofs.Update.{put-out}
 use Rattle.unroll.specs.Sequential.{storeAt}
 use Rattle.unroll.specs.Machine.{Call, item, Decides}
-use Rattle.unroll.specs.Statement.{End, allSteps, reached, replyAfter, steps, times, AnyOrder}
+use Rattle.unroll.specs.AnyOrder.{End, allSteps, reached, replyAfter, steps, times, AnyOrder}
 use Rattle.unroll.proofs.Theorems.{any-order, equal-passes, start-rule}
 use Rattle.body.specs.Body.{Body, Fits}
 use Rattle.body.specs.Loop.{tasksRun, cellsOf, cellsAt, loopWord, loopFinal}
 use Rattle.body.specs.Transfers.{lastBefore}
 use Rattle.body.specs.Items.{writer, itemCount, itemAt}
 use Rattle.body.specs.Places.{copy, system, resultFrom, resultOf}
-use Rattle.body.specs.Statement.{Meaning, InOrder, Computes, Laws}
+use Rattle.body.specs.Meaning.{Meaning}
+use Rattle.body.specs.Computes.{InOrder, Computes, Laws}
 use Rattle.body.proofs.Writers.{last-writer, no-writer, sources, last-some, last-none}
 use Rattle.body.proofs.ItemList.{tasks-listed, sends-listed, receives-listed}
 use Rattle.body.proofs.ItemOrder.{ordered, listed-once, send-then, receive-after}

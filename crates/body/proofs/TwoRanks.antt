@@ -16,7 +16,7 @@ use Rattle.finite.proofs.Members.{mem-one, mem-cases}
 use Rattle.unroll.specs.Sequential.{wordOn, execute, executeTo, storeOf, storeAt, word}
 use Rattle.unroll.specs.Edges.{Edge}
 use Rattle.unroll.specs.Machine.{State, Call, opening, startState, finishState, reply, step, run, replies}
-use Rattle.unroll.specs.Statement.{allSteps}
+use Rattle.unroll.specs.AnyOrder.{allSteps}
 use Rattle.unroll.proofs.LastWriter.{scan, scan-suc, last-same, last-next, last-far, last-writer}
 use Rattle.unroll.proofs.Decide.{dec-before, dec-writes, dec-accesses, dec-conflict, dec-last, dec-unwritten, dec-through, dec-dependence, dec-edge, dec-met, dec-ready, dec-start, dec-finish, decides}
 use Rattle.unroll.proofs.Local.{same-replies, same-run}

@@ -19,7 +19,7 @@ use Rattle.unroll.specs.Instances.{earlier, within}
 use Rattle.unroll.proofs.Instances.{before-pass, before-item, between-same, between-next}
 use Rattle.body.specs.Body.{Body}
 use Rattle.body.specs.Transfers.{Transfer, transfer, equals, lastBefore, source, wanted, transferred, transfersOf}
-use Rattle.body.specs.Statement.{LastWriter, Source, Reader, IsTransfer}
+use Rattle.body.specs.Meaning.{LastWriter, Source, Reader, IsTransfer}
 
 equals-some : (o : Option ℕ) (i : ℕ) → equals o i ≡ true → o ≡ some i
 equals-some none i h = absurd (not-both h refl)

@@ -3,5 +3,6 @@ pub mod Loop
 pub mod Transfers
 pub mod Items
 pub mod Places
-pub mod Statement
+pub mod Meaning
+pub mod Computes
 pub mod TwoRanks

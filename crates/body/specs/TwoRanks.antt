@@ -8,7 +8,7 @@ use lib.ListN.{getD}
 use Rattle.unroll.specs.Sequential.{word}
 use Rattle.unroll.specs.Edges.{Edge}
 use Rattle.unroll.specs.Machine.{Call, start, finish, opening, Decides, replies}
-use Rattle.unroll.specs.Statement.{allSteps, reached}
+use Rattle.unroll.specs.AnyOrder.{allSteps, reached}
 use Rattle.body.specs.Body.{Body, Fits}
 use Rattle.body.specs.Loop.{loopWord, loopFinal}
 use Rattle.body.specs.Items.{task, send, receive, itemList}

@@ -11,7 +11,7 @@ use Rattle.finite.proofs.Below.{sum-const, sum-ext, sum-le, sum-tight, sum-suc}
 use Rattle.finite.proofs.Update.{update-same, update-other}
 use Rattle.unroll.specs.System.{System}
 use Rattle.unroll.specs.Machine.{State, Call, start, finish, anyCall, opening, Can, after, startState, finishState, Decides, step, run, accepted}
-use Rattle.unroll.specs.Statement.{WritersMade, End, allSteps, reached, steps}
+use Rattle.unroll.specs.AnyOrder.{WritersMade, End, allSteps, reached, steps}
 use Rattle.unroll.proofs.Invariant.{Invariant}
 use Rattle.unroll.proofs.Progress.{end-or-can}
 use Rattle.unroll.proofs.Runs.{step-ind, can-steps, can-counts, run-append, step-invariant, reached-invariant}

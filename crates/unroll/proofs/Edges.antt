@@ -7,7 +7,6 @@ use native.Mathlib.Omega.{arith}
 use Rattle.unroll.specs.Instances.{Before, earlier}
 use Rattle.unroll.specs.System.{System, Writes, Accesses, writing}
 use Rattle.unroll.specs.Edges.{Conflict, Unwritten, Dependence, Edge, rule, reuse}
-use Rattle.unroll.specs.Statement.{EdgeLaws}
 use Rattle.unroll.proofs.Instances.{before-pass, before-later, before-sooner, before-item}
 
 module _ (S : System) where
@@ -28,11 +27,11 @@ module _ (S : System) where
   unwritten-sooner : (k x p a q b : ℕ) → Unwritten S x (k + p) a (k + q) b → Unwritten S x p a q b
   unwritten-sooner k x p a q b f r c l u v = f (k + r) c l (before-later k p a r c u) (before-later k r c q b v)
 
-  dependence-later : (k p a q b : ℕ) → Dependence S p a q b → Dependence S (k + p) a (k + q) b
+  pub dependence-later : (k p a q b : ℕ) → Dependence S p a q b → Dependence S (k + p) a (k + q) b
   dependence-later k p a q b d =
       record { from = d .from; to = d .to; place = d .place; conflict = d .conflict; order = before-later k p a q b (d .order); between = unwritten-later k (d .place) p a q b (d .between) }
 
-  dependence-sooner : (k p a q b : ℕ) → Dependence S (k + p) a (k + q) b → Dependence S p a q b
+  pub dependence-sooner : (k p a q b : ℕ) → Dependence S (k + p) a (k + q) b → Dependence S p a q b
   dependence-sooner k p a q b d =
       record { from = d .from; to = d .to; place = d .place; conflict = d .conflict; order = before-sooner k p a q b (d .order); between = unwritten-sooner k (d .place) p a q b (d .between) }
 
@@ -45,7 +44,7 @@ module _ (S : System) where
       (q - p, s, rule (dependence-sooner p 0 a (q - p) b (subst (λ (r : ℕ). Dependence S (p + 0) a r b) (sym s) (subst (λ (r : ℕ). Dependence S r a q b) (sym z) e))))
 
   -- where more than a pass lies between, the writer's own next instance, or its last, stands between
-  same-or-next : (p a q b : ℕ) → Dependence S p a q b → (q ≡ p) ⊎ (q ≡ suc p)
+  pub same-or-next : (p a q b : ℕ) → Dependence S p a q b → (q ≡ p) ⊎ (q ≡ suc p)
   same-or-next p a q b e =
       elim (decLt (suc p) q) [
         | yes k ↦ absurd (⊎-elim
@@ -72,17 +71,8 @@ module _ (S : System) where
   edge-within a b d (rule e) z = before-item 0 a d b (e .order) (omega arith)
   edge-within a b d (reuse l e h) z = absurd (omega arith)
 
-  edge-only-readers : (a b d : ℕ) → (a ≡ b → ⊥) → ((x : ℕ) → Accesses S a x → Accesses S b x → (Writes S a x → ⊥) × (Writes S b x → ⊥)) → Edge S a b d → ⊥
+  pub edge-only-readers : (a b d : ℕ) → (a ≡ b → ⊥) → ((x : ℕ) → Accesses S a x → Accesses S b x → (Writes S a x → ⊥) × (Writes S b x → ⊥)) → Edge S a b d → ⊥
   edge-only-readers a b d ne f (reuse l e h) = ne e
   edge-only-readers a b d ne f (rule e) =
       let k = f (e .place) (e .conflict .first) (e .conflict .second) in
       ⊎-elim (k .0) (k .1) (e .conflict .one-writes)
-
-  pub edge-laws : EdgeLaws S
-  edge-laws =
-      record {
-        every-pass = λ k p a q b. (dependence-later k p a q b, dependence-sooner k p a q b);
-        same-or-next = same-or-next;
-        distance = edge-distance;
-        only-readers = edge-only-readers;
-      }

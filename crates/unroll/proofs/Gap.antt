@@ -12,7 +12,7 @@ use Rattle.finite.proofs.Tests.{true-or-false}
 use Rattle.finite.proofs.Decide.{dec-map, dec-imp, dec-sum, dec-then, dec-below, dec-below-suc, dec-some, dec-some-cons}
 use Rattle.unroll.specs.Sequential.{wordOn, execute, executeTo, storeOf, storeAt, word}
 use Rattle.unroll.specs.Machine.{start, opening, CanStart, Decides, run, accepted}
-use Rattle.unroll.specs.Statement.{replyAfter}
+use Rattle.unroll.specs.AnyOrder.{replyAfter}
 use Rattle.unroll.specs.Gap.{gap, Needed}
 use Rattle.unroll.proofs.LastWriter.{scan, scan-suc, last-same, last-next, last-far, last-writer}
 use Rattle.unroll.proofs.Decide.{dec-before, dec-writes, dec-accesses, dec-conflict, dec-last, dec-unwritten, dec-through, dec-dependence, dec-edge, dec-met, dec-ready, dec-start}

@@ -15,7 +15,7 @@ use Rattle.unroll.specs.System.{System, Writes, Accesses, reading, writi
 use Rattle.unroll.specs.Sequential.{wordOn, storeAt, word}
 use Rattle.unroll.specs.Edges.{Conflict, Unwritten, Edge}
 use Rattle.unroll.specs.Machine.{State, opening, CanStart, CanFinish, startState, finishState}
-use Rattle.unroll.specs.Statement.{WritersMade}
+use Rattle.unroll.specs.AnyOrder.{WritersMade}
 use Rattle.unroll.proofs.Instances.{before-item, before-first, before-suc-cases, before-or-after, before-suc, before-pred}
 use Rattle.unroll.proofs.Sequential.{store-written, store-open, store-stretch}
 use Rattle.unroll.proofs.LastWriter.{Last, clear, writer, last-writer}

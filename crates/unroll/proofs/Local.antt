@@ -13,7 +13,7 @@ use Rattle.finite.proofs.Update.{update-ind, update-same, update-other, put-in,
 use Rattle.unroll.specs.System.{System, reading}
 use Rattle.unroll.specs.Sequential.{wordOn}
 use Rattle.unroll.specs.Machine.{State, Call, start, finish, Can, after, answer, startState, finishState, Decides, reply, step, run, replies}
-use Rattle.unroll.specs.Statement.{Agree}
+use Rattle.unroll.specs.Meaning.{Agree}
 use Rattle.unroll.proofs.Edges.{edge-from}
 
 module _ (S : System) where

@@ -9,7 +9,7 @@ use Rattle.unroll.specs.Instances.{Before, earlier, within}
 use Rattle.unroll.specs.System.{System}
 use Rattle.unroll.specs.Edges.{Edge}
 use Rattle.unroll.specs.Machine.{State, Call, start, finish, Met, Can}
-use Rattle.unroll.specs.Statement.{End}
+use Rattle.unroll.specs.AnyOrder.{End}
 use Rattle.unroll.proofs.Instances.{before-pass, before-item, before-le}
 use Rattle.unroll.proofs.Edges.{edge-from, edge-within}
 use Rattle.unroll.proofs.Invariant.{Invariant}

@@ -16,7 +16,8 @@ use Rattle.finite.proofs.Update.{put-in, put-out}
 use Rattle.unroll.specs.System.{System}
 use Rattle.unroll.specs.Sequential.{storeAt, word}
 use Rattle.unroll.specs.Machine.{State, Call, start, finish, item, alike, opening, Can, after, answer, startState, finishState, Decides, reply, step, run, replies, accepted}
-use Rattle.unroll.specs.Statement.{Started, Finished, WritersMade, End, reached, replyAfter, times}
+use Rattle.unroll.specs.Meaning.{Started, Finished}
+use Rattle.unroll.specs.AnyOrder.{WritersMade, End, reached, replyAfter, times}
 use Rattle.unroll.proofs.Instances.{before-pass}
 use Rattle.unroll.proofs.Invariant.{Invariant, opening-invariant, start-invariant, finish-invariant, start-word}
 
@@ -66,7 +67,7 @@ module _ (S : System) (can : Decides S) where
   start-changes s a v e =
       let h : Can S s (start a) × (answer S s (start a) ≡ v) = reply-some s (start a) v e in
       rw (can-steps s (start a) (h .0), ← (h .1))
-      (record { counted = λ b. refl; finished = λ b. refl; places = λ x. refl; held = λ b. refl })
+      (record { word = refl; counted = λ b. refl; finished = λ b. refl; places = λ x. refl; held = λ b. refl })
 
   pub finish-changes : (s : State) (a v : ℕ) → reply S can s (finish a) ≡ some v → Finished S s (step S can s (finish a)) a v
   unfolding finishState

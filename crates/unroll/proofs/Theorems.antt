@@ -1,4 +1,4 @@
--- The statements of specs/Statement.antt, proved.
+-- The statements of specs/Meaning.antt and specs/AnyOrder.antt, proved.
 use Prim.Native.Nat.{ℕ, zero, suc, _+_, _<_}
 use mathlib.Core.Path.{_≡_}
 use mathlib.Core.Logic.{inl, inr, _↔_}
@@ -8,9 +8,10 @@ use native.Mathlib.Omega.{arith}
 use Rattle.unroll.specs.System.{System}
 use Rattle.unroll.specs.Edges.{Edge}
 use Rattle.unroll.specs.Machine.{State, Call, Met, CanStart, start, finish, answer, Decides}
-use Rattle.unroll.specs.Statement.{EqualPasses, StartRule, WritersMade, reached, replyAfter, AnyOrder, Laws}
+use Rattle.unroll.specs.Meaning.{EqualPasses, StartRule, Meaning}
+use Rattle.unroll.specs.AnyOrder.{WritersMade, reached, replyAfter, AnyOrder, Laws}
 use Rattle.unroll.proofs.Instances.{before-pass}
-use Rattle.unroll.proofs.Edges.{edge-from, edge-distance, edge-laws}
+use Rattle.unroll.proofs.Edges.{dependence-later, dependence-sooner, same-or-next, edge-from, edge-distance, edge-only-readers}
 use Rattle.unroll.proofs.Decide.{decides}
 use Rattle.unroll.proofs.Local.{same-machine, local}
 use Rattle.unroll.proofs.Progress.{end-or-can}
@@ -28,12 +29,12 @@ module _ (S : System) (can : Decides S) (W : WritersMade S) where
   pub any-order : AnyOrder S can
   any-order =
       record {
+        replied = replies-at S can;
         starts = λ l a. shown-times S can (start a) l;
         finishes = λ l a. shown-times S can (finish a) l;
         answers = answers S can W;
         in-passes = in-passes S can W;
         last-started = last-started S can W;
-        refused = λ l. reply-none S can (reached S can l);
         progress = progress;
         at-end = at-end S can W;
         completes = completes S can W;
@@ -69,5 +70,21 @@ module _ (S : System) (E : EqualPasses S) where
   pub start-rule : (s : State) (a : ℕ) → CanStart S s a ↔ StartRule S s a
   start-rule s a = (rule-start s a, λ r. record { in-range = r .in-range; left = r .left; idle = r .idle; ready = start-ready s a r })
 
+pub meaning : (S : System) → Meaning S
+meaning S =
+    record {
+      every-pass = λ k p a q b. (dependence-later S k p a q b, dependence-sooner S k p a q b);
+      same-or-next = same-or-next S;
+      distance = edge-distance S;
+      only-readers = edge-only-readers S;
+      start-rule = start-rule S;
+      decides = decides S;
+      same-machine = same-machine S;
+      start-changes = start-changes S;
+      finish-changes = finish-changes S;
+      refusal-changes = reply-none S;
+      local = local S;
+    }
+
 pub laws : Laws
-laws = record { edges = edge-laws; decides = decides; same-machine = same-machine; local = local; start-changes = start-changes; finish-changes = finish-changes; replies-at = replies-at; any-order = any-order; equal-passes = equal-passes; start-rule = start-rule }
+laws = record { meaning = meaning; any-order = any-order; equal-passes = equal-passes }

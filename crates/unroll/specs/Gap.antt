@@ -8,7 +8,7 @@ use lib.ListN.{getD}
 use Rattle.unroll.specs.System.{System}
 use Rattle.unroll.specs.Sequential.{word}
 use Rattle.unroll.specs.Machine.{start, Decides}
-use Rattle.unroll.specs.Statement.{replyAfter, AnyOrder}
+use Rattle.unroll.specs.AnyOrder.{replyAfter, AnyOrder}
 
 abbrev pub gap : System
 gap =

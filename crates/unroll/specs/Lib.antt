@@ -3,5 +3,6 @@ pub mod System
 pub mod Sequential
 pub mod Edges
 pub mod Machine
-pub mod Statement
+pub mod Meaning
+pub mod AnyOrder
 pub mod Gap

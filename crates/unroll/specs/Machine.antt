@@ -43,7 +43,7 @@ module _ (S : System) where
   opening = record { started = λ a. 0; finished = λ a. 0; places = S .initial; held = λ a. 0 }
 
   -- the wait for item b in pass p is met: the instance has finished, or it is not made. Where all items have the same passes, the
-  -- second never decides (Statement.antt, StartRule)
+  -- second never decides (Meaning.antt, StartRule)
   abbrev pub Met : State → ℕ → ℕ → Type 0
   Met s b p = (p < s .finished b) ⊎ (S .passes b ≤ p)
 
@@ -93,7 +93,7 @@ module _ (S : System) where
   answer s (start a) = wordOn S a (s .places)
   answer s (finish a) = s .held a
 
-  -- a test of acceptance: the machine is the same for each (Laws .same-machine)
+  -- a test of acceptance: the machine is the same for each (Meaning .same-machine)
   abbrev pub Decides : Type 0
   Decides = (s : State) (c : Call) → Dec (Can s c)
 

@@ -1,5 +1,5 @@
--- What is proved of every body that fits (proofs/Theorems.antt).
-use Prim.Native.Nat.{ℕ, suc, _*_, _<_}
+-- What the definitions of transfers, items and places mean (proved in proofs/Theorems.antt).
+use Prim.Native.Nat.{ℕ, suc, _<_}
 use mathlib.Core.Path.{_≡_}
 use mathlib.Core.Bool.{true, false}
 use mathlib.Core.Logic.{_⊎_, _↔_}
@@ -7,15 +7,11 @@ use mathlib.Core.List.{List, [], _∷_}
 use mathlib.Core.Option.{none, some}
 use Rattle.finite.specs.Lists.{mem, position}
 use Rattle.unroll.specs.Instances.{Before}
-use Rattle.unroll.specs.Sequential.{storeAt, word}
 use Rattle.unroll.specs.Edges.{Edge}
-use Rattle.unroll.specs.Machine.{State, Call, item, CanStart, Decides}
-use Rattle.unroll.specs.Statement.{StartRule, End, reached, replyAfter, steps, times, AnyOrder}
-use Rattle.body.specs.Body.{Body, Fits}
-use Rattle.body.specs.Loop.{loopWord, loopFinal}
+use Rattle.body.specs.Body.{Body}
 use Rattle.body.specs.Transfers.{lastBefore, source}
-use Rattle.body.specs.Items.{Item, task, send, receive, writer, itemCount, itemAt}
-use Rattle.body.specs.Places.{slot, copy, initial, system, resultOf}
+use Rattle.body.specs.Items.{Item, task, send, receive, itemCount, itemAt}
+use Rattle.body.specs.Places.{slot, copy, initial, system}
 
 -- lexicographic order, of lists of one length
 abbrev pub Less : List ℕ → List ℕ → Type 0
@@ -86,33 +82,3 @@ module _ (B : Body) where
     -- no edge between tasks on two ranks, whatever regions they name
     pub one-rank : (a b d i j : ℕ) → Edge (system B) a b d → itemAt B a ≡ task i → itemAt B b ≡ task j →
         B .rank i ≡ B .rank j
-
-  -- the items in order compute the loop: the words of the writers, and each region's final number
-  pub record InOrder : Type 0 where
-    pub words : (p a : ℕ) → p < B .passes → a < itemCount B → word (system B) p a ≡ loopWord B p (writer (itemAt B a))
-    pub written : (g j : ℕ) → g < B .regions → lastBefore B (B .tasks) g ≡ some j →
-        storeAt (system B) (B .passes) 0 (copy B (B .rank j) g) ≡ loopFinal B g
-    -- of the loop alone
-    pub unwritten : (g : ℕ) → lastBefore B (B .tasks) g ≡ none → loopFinal B g ≡ B .starting g
-    pub no-pass : (g : ℕ) → B .passes ≡ 0 → loopFinal B g ≡ B .starting g
-
--- demand 3 on the items of a body, but for calls for results: every list of calls from the opening answers the loop's numbers
-pub record Computes (B : Body) (can : Decides (system B)) : Type 0 where
-  pub any-order : AnyOrder (system B) can
-  -- the accepted starts of an item answer the words of its writer in passes 0, 1, 2 and on of the loop, and so do its finishes
-  pub answers : (l : List Call) (c : Call) (v : ℕ) → replyAfter (system B) can l c ≡ some v →
-      (item c < itemCount B)
-      × (times (system B) can c l < B .passes)
-      × (v ≡ loopWord B (times (system B) can c l) (writer (itemAt B (item c))))
-  -- the end is reached exactly when the accepted steps are 2 × passes × items
-  pub ends : (l : List Call) → End (system B) (reached (system B) can l) ↔ (steps (system B) can l ≡ 2 * (B .passes * itemCount B))
-  -- and then each region's result is its final number in the loop
-  pub results : (l : List Call) → End (system B) (reached (system B) can l) →
-      (g : ℕ) → g < B .regions → resultOf B (reached (system B) can l) g ≡ loopFinal B g
-
-pub record Laws : Type 0 where
-  pub meaning : (B : Body) → Fits B → Meaning B
-  -- demand 2 on starts: accepted exactly by the paper's words
-  pub start-rule : (B : Body) (s : State) (a : ℕ) → CanStart (system B) s a ↔ StartRule (system B) s a
-  pub in-order : (B : Body) → Fits B → InOrder B
-  pub computes : (B : Body) → Fits B → (can : Decides (system B)) → Computes B can
