@@ -80,9 +80,15 @@ module _ (B : Body) where
       from (j, l, h) = omega (arith, is-task j h)
 
   block-transfer : (j : ℕ) (x : Item) (t : Transfer) → InBlock j x → carried x ≡ some t → In t (transfersOf B j)
-  block-transfer j x t (itself e) c = absurd (Option·none-ne-some t (sym (ap carried e) ∙ c))
-  block-transfer j x t (sends g q m e) c = subst (λ (z : Transfer). In z (transfersOf B j)) (Option·some-injective (transfer j g q) t (sym (ap carried e) ∙ c)) m
-  block-transfer j x t (receives g q m e) c = subst (λ (z : Transfer). In z (transfersOf B j)) (Option·some-injective (transfer j g q) t (sym (ap carried e) ∙ c)) m
+  block-transfer j x t k c = go k
+    where
+      same : (g q : ℕ) → In (transfer j g q) (transfersOf B j) → carried x ≡ some (transfer j g q) → In t (transfersOf B j)
+      same g q m d = subst (λ (z : Transfer). In z (transfersOf B j)) (Option·some-injective (transfer j g q) t (sym d ∙ c)) m
+
+      go : InBlock j x → In t (transfersOf B j)
+      go (itself e) = absurd (Option·none-ne-some t (sym (ap carried e) ∙ c))
+      go (sends g q m e) = same g q m (ap carried e)
+      go (receives g q m e) = same g q m (ap carried e)
 
   listed-transfer : (x : Item) (i g q : ℕ) → carried x ≡ some (transfer i g q) → Listed B x → IsTransfer B i g q
   listed-transfer x i g q c h = from (in-list x (listed-in x h))

@@ -31,6 +31,11 @@ update-same f a v = rw (eq-eqb a a refl)
 pub update-other : (f : ℕ → ℕ) (a v b : ℕ) → (b ≡ a → ⊥) → update f a v b ≡ f b
 update-other f a v b = update-ind (λ b r. (b ≡ a → ⊥) → r ≡ f b) f a v (λ h. absurd (h refl)) (λ b h k. refl) b
 
+-- the same update of functions that agree
+pub update-ext : (f g : ℕ → ℕ) (a v w b : ℕ) → v ≡ w → f b ≡ g b → update f a v b ≡ update g a w b
+update-ext f g a v w b e =
+    update-ind (λ b r. f b ≡ g b → r ≡ update g a w b) f a v (λ k. e ∙ sym (update-same g a w)) (λ b ne k. k ∙ sym (update-other g a w b ne)) b
+
 -- put
 
 pub put-in : (l : List ℕ) (v : ℕ) (f : ℕ → ℕ) (x : ℕ) → mem x l ≡ true → put l v f x ≡ v
@@ -40,6 +45,10 @@ put-in l v f x h = rw h
 pub put-out : (l : List ℕ) (v : ℕ) (f : ℕ → ℕ) (x : ℕ) → mem x l ≡ false → put l v f x ≡ f x
 unfolding put
 put-out l v f x h = rw h
+
+pub put-ext : (l : List ℕ) (f g : ℕ → ℕ) (v w x : ℕ) → v ≡ w → f x ≡ g x → put l v f x ≡ put l w g x
+unfolding put
+put-ext l f g v w x e h = rw (e, h)
 
 -- putBelow: -none, -more and -done are a loop's, before its first turn, over a turn, and after its last
 

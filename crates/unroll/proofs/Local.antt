@@ -5,11 +5,8 @@ use mathlib.Core.Logic.{inl, inr, ⊎-elim, ite}
 use mathlib.Core.List.{List, [], _∷_}
 use mathlib.Core.Option.{none, some}
 use native.Mathlib.Omega.{arith}
-use Rattle.finite.specs.Lists.{mem}
-use Rattle.finite.specs.Update.{update, put}
-use Rattle.finite.proofs.Tests.{true-or-false}
 use Rattle.finite.proofs.Members.{map-ext}
-use Rattle.finite.proofs.Update.{update-ind, update-same, update-other, put-in, put-out}
+use Rattle.finite.proofs.Update.{update-ext, put-ext}
 use Rattle.unroll.specs.System.{System, reading}
 use Rattle.unroll.specs.Sequential.{wordOn}
 use Rattle.unroll.specs.Machine.{State, Call, start, finish, Can, after, answer, startState, finishState, Decides, reply, step, run, replies}
@@ -76,33 +73,21 @@ module _ (S : System) where
   agree-answer s t (start a) r k = agree-word s t a (k .in-range) r
   agree-answer s t (finish a) r k = r .held a (k .in-range)
 
-  -- the same update of functions that agree
-  agree-update : (f g : ℕ → ℕ) (a v w b : ℕ) → v ≡ w → (b < S .items → f b ≡ g b) → b < S .items → update f a v b ≡ update g a w b
-  agree-update f g a v w b e h l =
-      update-ind (λ b r. f b ≡ g b → r ≡ update g a w b) f a v (λ k. e ∙ sym (update-same g a w)) (λ b ne k. k ∙ sym (update-other g a w b ne)) b (h l)
-
-  agree-put : (f g : ℕ → ℕ) (a v w x : ℕ) → v ≡ w → f x ≡ g x → put (S .writes a) v f x ≡ put (S .writes a) w g x
-  agree-put f g a v w x e h =
-      ⊎-elim
-      (λ m. put-in (S .writes a) v f x m ∙ (e ∙ sym (put-in (S .writes a) w g x m)))
-      (λ m. put-out (S .writes a) v f x m ∙ (h ∙ sym (put-out (S .writes a) w g x m)))
-      (true-or-false (mem x (S .writes a)))
-
   agree-after : (s t : State) (c : Call) → Agree S s t → Can S s c → Agree S (after S s c) (after S t c)
   unfolding startState finishState
   agree-after s t (start a) r k =
       record {
-        started = λ b l. agree-update (s .started) (t .started) a (suc (s .started a)) (suc (t .started a)) b (ap suc (r .started a (k .in-range))) (r .started b) l;
+        started = λ b l. update-ext (s .started) (t .started) a (suc (s .started a)) (suc (t .started a)) b (ap suc (r .started a (k .in-range))) (r .started b l);
         finished = r .finished;
-        held = λ b l. agree-update (s .held) (t .held) a (wordOn S a (s .places)) (wordOn S a (t .places)) b (agree-word s t a (k .in-range) r) (r .held b) l;
+        held = λ b l. update-ext (s .held) (t .held) a (wordOn S a (s .places)) (wordOn S a (t .places)) b (agree-word s t a (k .in-range) r) (r .held b l);
         places = r .places;
       }
   agree-after s t (finish a) r k =
       record {
         started = r .started;
-        finished = λ b l. agree-update (s .finished) (t .finished) a (suc (s .finished a)) (suc (t .finished a)) b (ap suc (r .finished a (k .in-range))) (r .finished b) l;
+        finished = λ b l. update-ext (s .finished) (t .finished) a (suc (s .finished a)) (suc (t .finished a)) b (ap suc (r .finished a (k .in-range))) (r .finished b l);
         held = r .held;
-        places = λ b x l h. agree-put (s .places) (t .places) a (s .held a) (t .held a) x (r .held a (k .in-range)) (r .places b x l h);
+        places = λ b x l h. put-ext (S .writes a) (s .places) (t .places) (s .held a) (t .held a) x (r .held a (k .in-range)) (r .places b x l h);
       }
 
   pub local : (can : Decides S) (s t : State) (c : Call) → Agree S s t → (reply S can s c ≡ reply S can t c) × Agree S (step S can s c) (step S can t c)
