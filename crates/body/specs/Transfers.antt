@@ -4,8 +4,9 @@ use mathlib.Core.Bool.{Bool, false, cond, not, _&&_}
 use mathlib.Core.List.{List, flatMap}
 use mathlib.Core.Option.{Option, none, some, orElse}
 use lib.Dec.{eqb}
+use lib.ListN.{length}
 use Rattle.finite.specs.Below.{anyBelow}
-use Rattle.finite.specs.Lists.{mem, gather}
+use Rattle.finite.specs.Lists.{mem, gather, range}
 use Rattle.body.specs.Body.{Body}
 
 -- the word that task i wrote to region g, sent to rank q
@@ -39,3 +40,7 @@ module _ (B : Body) where
   -- the transfers of task i: by written region in record order, then by rank rising
   unfoldable pub transfersOf : ℕ → List Transfer
   transfersOf i = flatMap (λ g. gather (B .ranks) (transferred i g) (transfer i g)) (B .writes i)
+
+  -- the number of transfers of the body
+  unfoldable pub transferCount : ℕ
+  transferCount = length (flatMap transfersOf (range 0 (B .tasks)))

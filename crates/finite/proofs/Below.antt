@@ -1,15 +1,17 @@
 -- Laws of the quantifiers, counts and sums below n. Those that end in -none, -more and -done are a loop's: before its first
 -- turn, over a turn, and after its last.
 use Prim.Native.Nat.{ℕ, zero, suc, _+_, _*_, _≤_, _<_}
-use mathlib.Core.Path.{_≡_, refl, sym, ap}
-use mathlib.Core.Bool.{Bool, true, false, cond, _&&_, _||_, or-true, and-eq-true-iff}
+use mathlib.Core.Path.{_≡_, refl, sym, _∙_, ap}
+use mathlib.Core.Bool.{Bool, true, false, cond, _&&_, _||_, or-true, and-eq-true-iff, not}
 use mathlib.Core.Logic.{⊎-elim}
 use native.Mathlib.Decide.{decLt, ℕ-discrete}
-use native.Mathlib.Nat.{zero-mul, suc-mul}
+use native.Mathlib.Nat.{add-zero, add-suc, zero-mul, suc-mul}
 use native.Mathlib.Numerals.{add-one}
 use native.Mathlib.Omega.{arith}
+use borrow.Author.Tests.{eqb-false, ne-eqb, not-true}
+use lib.Dec.{eqb}
 use Rattle.finite.specs.Below.{allBelow, anyBelow, countBelow, sumBelow}
-use Rattle.finite.proofs.Tests.{or-cases, not-both}
+use Rattle.finite.proofs.Tests.{and-true, false-of, not-both, or-cases}
 
 -- what holds below n and of n holds below n + 1
 pub below-suc : (P : ℕ → Type 0) (n : ℕ) → ((k : ℕ) → k < n → P k) → P n → (k : ℕ) → k < suc n → P k
@@ -70,6 +72,11 @@ any-at p (suc n) i l h =
       | no k ↦ (let e : i ≡ n = omega arith in rw (← e, h) (or-true (anyBelow i p)))
     ]
 
+pub any-never : (p : ℕ → Bool) (n : ℕ) → ((i : ℕ) → i < n → p i ≡ false) → anyBelow n p ≡ false
+unfolding anyBelow
+any-never p zero h = refl
+any-never p (suc n) h = rw (any-never p n (λ i l. h i (omega arith)), h n (omega arith))
+
 pub any-from : (p : ℕ → Bool) (n : ℕ) → anyBelow n p ≡ true → (i : ℕ) × (i < n) × (p i ≡ true)
 unfolding anyBelow
 any-from p zero h = absurd (not-both h refl)
@@ -78,6 +85,11 @@ any-from p (suc n) h =
     (λ e. let r : (i : ℕ) × (i < n) × (p i ≡ true) = any-from p n e in (r .0, omega (arith, r .1), r .2))
     (λ e. (n, omega arith, e))
     (or-cases (anyBelow n p) (p n) h)
+
+pub any-ext : (n : ℕ) (p q : ℕ → Bool) → ((i : ℕ) → i < n → p i ≡ q i) → anyBelow n p ≡ anyBelow n q
+unfolding anyBelow
+any-ext zero p q h = refl
+any-ext (suc n) p q h = rw (any-ext n p q (λ i k. h i (omega arith)), h n (omega arith))
 
 -- countBelow
 
@@ -95,6 +107,11 @@ count-more p i n s t h e f = rw (count-next, h, e, f)
 
 pub count-done : (p : ℕ → Bool) (n i k : ℕ) → k ≡ countBelow i p → n ≤ i → i ≤ n → k ≡ countBelow n p
 count-done p n i k h a b = let e : n ≡ i = omega arith in rw e h
+
+pub count-never : (n : ℕ) (p : ℕ → Bool) → ((k : ℕ) → k < n → p k ≡ false) → countBelow n p ≡ 0
+unfolding countBelow
+count-never zero p h = refl
+count-never (suc n) p h = rw (count-never n p (λ k l. h k (omega arith)), h n (omega arith))
 
 one-at-most : (b : Bool) → cond b 1 0 ≤ 1
 one-at-most true = omega arith
@@ -150,3 +167,89 @@ sum-suc (suc n) f g a l e h =
       | yes k ↦ omega (arith, sum-ext n g f (λ j m. h j (λ q. omega arith)), ap f k, ap g k)
       | no k ↦ omega (arith, sum-suc n f g a (omega arith) e h, h n k)
     ]
+
+-- what lies beyond n adds nothing
+pub sum-beyond : (m n : ℕ) (f : ℕ → ℕ) → n ≤ m → ((k : ℕ) → n ≤ k → k < m → f k ≡ 0) → sumBelow m f ≡ sumBelow n f
+unfolding sumBelow
+sum-beyond zero n f l h = let e : n ≡ 0 = omega arith in rw e
+sum-beyond (suc m) n f l h =
+    elim (ℕ-discrete n (suc m)) [
+      | yes e ↦ rw e
+      | no e ↦ omega (arith, sum-beyond m n f (omega arith) (λ k u v. h k u (omega arith)), h m (omega arith) (omega arith))
+    ]
+
+-- counts as sums
+
+pub count-sum : (n : ℕ) (p : ℕ → Bool) → countBelow n p ≡ sumBelow n (λ k. cond (p k) 1 0)
+unfolding countBelow sumBelow
+count-sum zero p = refl
+count-sum (suc n) p = omega (arith, count-sum n p)
+
+pub count-ext : (n : ℕ) (p q : ℕ → Bool) → ((k : ℕ) → k < n → p k ≡ q k) → countBelow n p ≡ countBelow n q
+count-ext n p q h = count-sum n p ∙ (sum-ext n (λ k. cond (p k) 1 0) (λ k. cond (q k) 1 0) (λ k l. ap (λ (b : Bool). cond b 1 0) (h k l)) ∙ sym (count-sum n q))
+
+-- of one number more
+pub count-suc : (n : ℕ) (p q : ℕ → Bool) (a : ℕ) → a < n → p a ≡ false → q a ≡ true → ((k : ℕ) → (k ≡ a → ⊥) → q k ≡ p k) → countBelow n q ≡ suc (countBelow n p)
+count-suc n p q a l e f h =
+    count-sum n q
+    ∙ (sum-suc n (λ k. cond (p k) 1 0) (λ k. cond (q k) 1 0) a l (rw (e, f)) (λ k m. ap (λ (b : Bool). cond b 1 0) (h k m))
+    ∙ ap suc (sym (count-sum n p)))
+
+pub count-beyond : (m n : ℕ) (p : ℕ → Bool) → n ≤ m → ((k : ℕ) → n ≤ k → k < m → p k ≡ false) → countBelow m p ≡ countBelow n p
+count-beyond m n p l h = count-sum m p ∙ (sum-beyond m n (λ k. cond (p k) 1 0) l (λ k u v. rw (h k u v)) ∙ sym (count-sum n p))
+
+count-add : (a n : ℕ) (p : ℕ → Bool) → countBelow (a + n) p ≡ countBelow a p + countBelow n (λ j. p (a + j))
+unfolding countBelow
+count-add a zero p = rw (add-zero a, add-zero)
+count-add a (suc n) p = rw add-suc (omega (arith, count-add a n p))
+
+-- m stretches of n numbers
+pub count-split : (m n : ℕ) (p : ℕ → Bool) → countBelow (m * n) p ≡ sumBelow m (λ i. countBelow n (λ j. p (i * n + j)))
+unfolding countBelow sumBelow
+count-split zero n p = rw zero-mul
+count-split (suc m) n p = rw suc-mul (omega (arith, count-add (m * n) n p, count-split m n p))
+
+-- numbers that others cover: each of the first is h of one of the second, so there are no more of them
+count-without : (n x : ℕ) (p : ℕ → Bool) → countBelow n p ≤ suc (countBelow n (λ k. p k && not (eqb k x)))
+unfolding countBelow
+count-without zero x p = omega arith
+count-without (suc n) x p =
+    elim (ℕ-discrete n x) [
+      | yes e ↦ (let q : countBelow n p ≡ countBelow n (λ k. p k && not (eqb k x)) = count-ext n p (λ k. p k && not (eqb k x)) (λ k l. apart k (λ z. omega arith)) in omega (arith, q, one-at-most (p n)))
+      | no e ↦ (let q : _≡_ {A = ℕ} (cond (p n) 1 0) (cond (p n && not (eqb n x)) 1 0) = ap (λ (b : Bool). cond b 1 0) (apart n e) in omega (arith, count-without n x p))
+    ]
+  where
+    and-kept : (a : Bool) → a ≡ (a && true)
+    and-kept true = refl
+    and-kept false = refl
+
+    apart : (k : ℕ) → (k ≡ x → ⊥) → p k ≡ (p k && not (eqb k x))
+    apart k e = rw (ne-eqb k x e) (and-kept (p k))
+
+pub count-cover : (n m : ℕ) (p r : ℕ → Bool) (h : ℕ → ℕ) → ((k : ℕ) → k < n → p k ≡ true → (j : ℕ) × (j < m) × (r j ≡ true) × (h j ≡ k)) → countBelow n p ≤ countBelow m r
+unfolding countBelow
+count-cover n zero p r h c = omega (arith, count-never n p (λ k l. false-of (p k) (λ e. let j = c k l e in absurd (omega (arith, j .1)))))
+count-cover n (suc m) p r h c = turn (r m) refl (count-cover n m)
+  where
+    turn : (b : Bool) → r m ≡ b → ((p′ r′ : ℕ → Bool) (h′ : ℕ → ℕ) → ((k : ℕ) → k < n → p′ k ≡ true → (j : ℕ) × (j < m) × (r′ j ≡ true) × (h′ j ≡ k)) → countBelow n p′ ≤ countBelow m r′) →
+        countBelow n p ≤ countBelow m r + cond b 1 0
+    turn true e ih =
+        omega (
+          arith,
+          count-without n (h m) p,
+          ih (λ k. p k && not (eqb k (h m))) r h
+              (λ k l q.
+              let b = and-true (p k) (not (eqb k (h m))) q in
+              let j = c k l (b .0) in
+              let other : j .0 ≡ m → ⊥ = λ z. eqb-false k (h m) (not-true (eqb k (h m)) (b .1)) (sym (j .3) ∙ ap h z) in
+              (j .0, omega (arith, j .1), j .2, j .3)),
+        )
+    turn false e ih =
+        omega (
+          arith,
+          ih p r h
+              (λ k l q.
+              let j = c k l q in
+              let other : j .0 ≡ m → ⊥ = λ z. not-both (j .2) (ap r z ∙ e) in
+              (j .0, omega (arith, j .1), j .2, j .3)),
+        )

@@ -5,3 +5,4 @@ pub mod Lists
 pub mod Update
 pub mod Decide
 pub mod Sorted
+pub mod Tabulate

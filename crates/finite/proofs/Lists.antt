@@ -11,7 +11,7 @@ use native.Mathlib.Numerals.{add-one}
 use native.Mathlib.Omega.{arith}
 use lib.ListN.{length, getD, take, set, length-append, List·getD-append}
 use lib.Seq.{take-suc-set, take-set-le, take-all, getD-at}
-use Rattle.finite.specs.Below.{countBelow}
+use Rattle.finite.specs.Below.{countBelow, sumBelow}
 use Rattle.finite.specs.Lists.{range, tabulate, gather}
 
 -- range
@@ -53,6 +53,11 @@ flatMap-range f n =
     ap (flatMap f) (range-snoc 0 n)
     ∙ (flatMap-append f (range 0 n) ((0 + n) ∷ [])
     ∙ (ap (λ r. flatMap f (range 0 n) ++ r) (append-nil (f (0 + n))) ∙ (let e : 0 + n ≡ n = omega arith in ap (λ (k : ℕ). flatMap f (range 0 n) ++ f k) e)))
+
+pub length-flatMap-range : {Y : Type 0} (f : ℕ → List Y) (n : ℕ) → length (flatMap f (range 0 n)) ≡ sumBelow n (λ i. length (f i))
+unfolding range flatMap sumBelow
+length-flatMap-range f zero = refl
+length-flatMap-range f (suc n) = ap length (flatMap-range f n) ∙ (length-append (flatMap f (range 0 n)) (f n) ∙ rw (length-flatMap-range f n))
 
 module _ {X : Type 0} where
   -- tabulate
@@ -134,3 +139,16 @@ module _ {X : Type 0} where
       last : (b : Bool) → p n ≡ b → In x (cond b (f n ∷ []) []) → (k : ℕ) × (k < suc n) × (p k ≡ true) × (x ≡ f k)
       last true e m = (n, omega arith, e, in-one m)
       last false e m = absurd (in-nil m)
+
+-- of each number that p holds of, a list
+pub length-flatMap-gather : {X Y : Type 0} (f : X → List Y) (n : ℕ) (p : ℕ → Bool) (g : ℕ → X)
+    → length (flatMap f (gather n p g)) ≡ sumBelow n (λ k. cond (p k) (length (f (g k))) 0)
+unfolding gather flatMap sumBelow
+length-flatMap-gather f zero p g = refl
+length-flatMap-gather f (suc n) p g =
+    ap length (flatMap-append f (gather n p g) (cond (p n) (g n ∷ []) []))
+    ∙ (length-append (flatMap f (gather n p g)) (flatMap f (cond (p n) (g n ∷ []) [])) ∙ rw (length-flatMap-gather f n p g, one (p n)))
+  where
+    one : (b : Bool) → length (flatMap f (cond b (g n ∷ []) [])) ≡ cond b (length (f (g n))) 0
+    one true = ap length (append-nil (f (g n)))
+    one false = refl

@@ -1,15 +1,17 @@
 -- Laws of membership: of numbers by `mem`, and of any elements by the kit's List·Memᴰ, here In.
 use Prim.Native.Nat.{ℕ, zero, suc, _<_}
-use mathlib.Core.Path.{_≡_, refl, sym, ap, ap₂, subst}
-use mathlib.Core.Bool.{true, or-true}
+use mathlib.Core.Path.{_≡_, refl, sym, _∙_, ap, ap₂, subst}
+use mathlib.Core.Bool.{Bool, true, false, cond, not, _&&_, _||_, or-true, or-false, or-assoc, and-eq-true-iff}
 use mathlib.Core.Logic.{_⊎_, inl, inr, ⊎-elim}
-use mathlib.Core.List.{List, [], _∷_, _++_, map, flatMap, List·Memᴰ as In, List·Memᴰ·head as here, List·Memᴰ·tail as there, List·Memᴰ·not-nil as in-nil, List·Memᴰ·cases-cons as in-cases, Memᴰ·append-left as in-left, Memᴰ·append-right as in-right, List·Memᴰ·append-cases as in-append}
+use mathlib.Core.List.{List, [], _∷_, _++_, map, flatMap, append-nil, List·Memᴰ as In, List·Memᴰ·head as here, List·Memᴰ·tail as there, List·Memᴰ·not-nil as in-nil, List·Memᴰ·cases-cons as in-cases, Memᴰ·append-left as in-left, Memᴰ·append-right as in-right, List·Memᴰ·append-cases as in-append}
 use native.Mathlib.Omega.{arith}
-use borrow.Author.Tests.{eqb-true, eq-eqb}
+use borrow.Author.Tests.{eqb-true, eq-eqb, not-true}
 use lib.Dec.{eqb}
 use lib.ListN.{length, getD}
-use Rattle.finite.specs.Lists.{mem}
-use Rattle.finite.proofs.Tests.{or-cases, not-both}
+use Rattle.finite.specs.Below.{anyBelow}
+use Rattle.finite.specs.Lists.{mem, distinct, gather}
+use Rattle.finite.proofs.Tests.{or-cases, false-of, not-both}
+use Rattle.finite.proofs.Below.{any-from}
 
 -- mem
 
@@ -43,6 +45,22 @@ mem-append-left x (y ∷ l) k h =
 pub mem-append-right : (x : ℕ) (l k : List ℕ) → mem x k ≡ true → mem x (l ++ k) ≡ true
 mem-append-right x [] k h = h
 mem-append-right x (y ∷ l) k h = mem-tail x y (l ++ k) (mem-append-right x l k h)
+
+-- as tests
+pub mem-append : (x : ℕ) (l k : List ℕ) → mem x (l ++ k) ≡ (mem x l || mem x k)
+unfolding mem
+mem-append x [] k = refl
+mem-append x (y ∷ l) k = rw (mem-append x l k) (sym (or-assoc (eqb x y) (mem x l) (mem x k)))
+
+mem-one-if : (x y : ℕ) (b : Bool) → mem x (cond b (y ∷ []) []) ≡ (b && eqb x y)
+unfolding mem
+mem-one-if x y true = or-false (eqb x y)
+mem-one-if x y false = refl
+
+pub mem-gather : (n : ℕ) (p : ℕ → Bool) (f : ℕ → ℕ) (x : ℕ) → mem x (gather n p f) ≡ anyBelow n (λ k. p k && eqb x (f k))
+unfolding gather anyBelow mem
+mem-gather zero p f x = refl
+mem-gather (suc n) p f x = mem-append x (gather n p f) (cond (p n) (f n ∷ []) []) ∙ rw (mem-gather n p f x, mem-one-if x (f n) (p n))
 
 pub mem-map : (f : ℕ → ℕ) (x : ℕ) (l : List ℕ) → mem x l ≡ true → mem (f x) (map f l) ≡ true
 mem-map f x [] h = absurd (mem-nil x h)
@@ -109,3 +127,30 @@ pub at-in : {X : Type 0} (x d : X) (l : List X) (i : ℕ) → i < length l → g
 at-in x d [] i h e = absurd (omega arith)
 at-in x d (y ∷ l) zero h e = here (sym e)
 at-in x d (y ∷ l) (suc i) h e = there (at-in x d l i (omega arith) e)
+
+-- distinct
+
+pub distinct-snoc : (l : List ℕ) (x : ℕ) → distinct l ≡ true → mem x l ≡ false → distinct (l ++ (x ∷ [])) ≡ true
+unfolding distinct mem
+distinct-snoc [] x h m = refl
+distinct-snoc (y ∷ l) x h m =
+    let d = and-eq-true-iff (not (mem y l)) (distinct l) .0 h in
+    let other : (x ≡ y) → ⊥ = λ e. not-both (rw e (mem-head y l)) m in
+    let rest : mem x l ≡ false = false-of (mem x l) (λ k. not-both (mem-tail x y l k) m) in
+    let one : mem y (x ∷ []) ≡ false = false-of (mem y (x ∷ [])) (λ k. other (sym (mem-one y x k))) in
+    rw (mem-append y l (x ∷ []), not-true (mem y l) (d .0), one, distinct-snoc l x (d .1) rest)
+
+-- numbers taken to others, no two to the same
+pub distinct-gather : (n : ℕ) (p : ℕ → Bool) (f : ℕ → ℕ) → ((j k : ℕ) → j < k → k < n → f j ≡ f k → ⊥) → distinct (gather n p f) ≡ true
+unfolding gather distinct
+distinct-gather zero p f h = refl
+distinct-gather (suc n) p f h = last (p n) (distinct-gather n p f (λ j k u v. h j k u (omega arith)))
+  where
+    new : mem (f n) (gather n p f) ≡ true → ⊥
+    new m =
+        let r = any-from (λ k. p k && eqb (f n) (f k)) n (sym (mem-gather n p f (f n)) ∙ m) in
+        h (r .0) n (r .1) (omega arith) (sym (eqb-true (f n) (f (r .0)) (and-eq-true-iff (p (r .0)) (eqb (f n) (f (r .0))) .0 (r .2) .1)))
+
+    last : (b : Bool) → distinct (gather n p f) ≡ true → distinct (gather n p f ++ cond b (f n ∷ []) []) ≡ true
+    last true d = distinct-snoc (gather n p f) (f n) d (false-of (mem (f n) (gather n p f)) new)
+    last false d = rw (append-nil (gather n p f)) d

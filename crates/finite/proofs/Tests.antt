@@ -1,8 +1,7 @@
 -- Laws of tests, beside the kit's (mathlib.Core.Bool, borrow.Author.Tests).
-use mathlib.Core.Path.{_≡_, refl, sym}
-use mathlib.Core.Bool.{Bool, true, false, _&&_, _||_, true≢false}
+use mathlib.Core.Path.{_≡_, refl, sym, _∙_}
+use mathlib.Core.Bool.{Bool, true, false, _&&_, _||_, true≢false, and-eq-true-iff}
 use mathlib.Core.Logic.{_⊎_, inl, inr}
-use mathlib.Core.Path.{_∙_}
 
 unfoldable pub true-or-false : (b : Bool) → (b ≡ true) ⊎ (b ≡ false)
 true-or-false true = inl refl
@@ -28,3 +27,17 @@ test-ext false false f g = refl
 -- equal parts make equal conjunctions: for `search`, where a callee's answer is a part
 pub and-parts : {a b c d : Bool} → a ≡ c → b ≡ d → (a && b) ≡ (c && d)
 and-parts p q = rw (p, q)
+
+pub and-true : (a b : Bool) → (a && b) ≡ true → (a ≡ true) × (b ≡ true)
+and-true a b = and-eq-true-iff a b .0
+
+pub and-intro : (a b : Bool) → a ≡ true → b ≡ true → (a && b) ≡ true
+and-intro a b p q = rw (p, q)
+
+pub or-parts : (a b : Bool) → (a || b) ≡ false → (a ≡ false) × (b ≡ false)
+or-parts true b e = absurd (not-both refl e)
+or-parts false b e = (refl, e)
+
+pub or-right : (a b : Bool) → (a || b) ≡ true → a ≡ false → b ≡ true
+or-right true b h e = absurd (not-both refl e)
+or-right false b h e = h

@@ -8,7 +8,7 @@ use native.Mathlib.Numerals.{add-one}
 use native.Mathlib.Omega.{arith}
 use borrow.Author.Tests.{eqb-true, eqb-false, eq-eqb}
 use lib.Dec.{eqb}
-use lib.ListN.{length, take, drop, set, length-set, length-drop, take-append-drop, drop-of-length-le}
+use lib.ListN.{length, getD, take, drop, set, length-set, length-drop, take-append-drop, drop-of-length-le}
 use lib.Seq.{length-take-le, take-all}
 use Rattle.finite.specs.Lists.{mem}
 use Rattle.finite.specs.Update.{update, put, putBelow}
@@ -50,6 +50,16 @@ pub put-ext : (l : List ℕ) (f g : ℕ → ℕ) (v w x : ℕ) → v ≡ w → f
 unfolding put
 put-ext l f g v w x e h = rw (e, h)
 
+-- set
+
+-- what holds of v, and of what xs has at g, holds of what xs has there with v put somewhere
+pub set-ind : {X : Type 0} (P : X → Type 0) (xs : List X) (k g : ℕ) (v d : X) → P v → P (getD xs g d) → P (getD (set xs k v) g d)
+set-ind P [] k g v d h e = e
+set-ind P (x ∷ xs) zero zero v d h e = h
+set-ind P (x ∷ xs) zero (suc g) v d h e = e
+set-ind P (x ∷ xs) (suc k) zero v d h e = e
+set-ind P (x ∷ xs) (suc k) (suc g) v d h e = set-ind P xs k g v d h e
+
 -- putBelow: -none, -more and -done are a loop's, before its first turn, over a turn, and after its last
 
 pub put-none : (p : ℕ → Bool) (f : ℕ → ℕ) (v : ℕ) (xs : List ℕ) → xs ≡ putBelow 0 p f v xs
@@ -65,7 +75,7 @@ put-more p f i g v t xs ys zs h q e z = rw (add-one, z, h, q, e)
 pub put-done : (p : ℕ → Bool) (f : ℕ → ℕ) (n i v : ℕ) (xs ys : List ℕ) → ys ≡ putBelow i p f v xs → n ≤ i → i ≤ n → ys ≡ putBelow n p f v xs
 put-done p f n i v xs ys h a b = let e : n ≡ i = omega arith in rw e h
 
-length-set-if : (b : Bool) (xs : List ℕ) (g v : ℕ) → length (cond b (set xs g v) xs) ≡ length xs
+pub length-set-if : (b : Bool) (xs : List ℕ) (g v : ℕ) → length (cond b (set xs g v) xs) ≡ length xs
 length-set-if true xs g v = length-set xs g v
 length-set-if false xs g v = refl
 

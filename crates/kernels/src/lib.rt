@@ -1,0 +1,108 @@
+// The word that a task computes from the words it reads, and the number of reads that its kernel permits. Which words are read,
+// and what becomes of the computed one, is no matter of this crate.
+ghost use mathlib.Core.Path.{_≡_};
+ghost use Prim.Native.Nat.{_+_, _-_, _/_, _%_, _^_, max};
+ghost use Rattle.kernels.specs.Kernels.{readAt, sumWord, differenceWord, meanWord, largest, kernelWord, suits};
+
+// The read at place i; 0 where there is none.
+fn read_at(reads: &[u64], i: usize) -> u64
+    ensures { λ r. ⌜ r ≡ readAt (now (reads .entry)) i ⌝ }
+{
+    if i < reads.len() { reads[i] } else { 0 }
+}
+
+// Kernel 1: c plus all reads, modulo 2^64.
+fn sum_word(c: u64, reads: &[u64]) -> u64
+    ensures { λ r. ⌜ r ≡ sumWord c (now (reads .entry)) ⌝ }
+{
+    let mut sum = c;
+    let mut i: usize = 0;
+    while i < reads.len() {
+        sum = std::num::wrapping_add_u64(sum, reads[i]);
+        i += 1;
+    }
+    sum
+}
+
+// a minus b plus c, modulo 2^64.
+fn difference(a: u64, b: u64, c: u64) -> u64
+    ensures { λ r. ⌜ r ≡ (a + (2 ^ 64 - b) + c) % 2 ^ 64 ⌝ }
+{
+    std::num::wrapping_add_u64(std::num::wrapping_sub_u64(a, b), c)
+}
+
+// Kernel 2: the first read minus the second plus c, modulo 2^64.
+fn difference_word(c: u64, reads: &[u64]) -> u64
+    ensures { λ r. ⌜ r ≡ differenceWord c (now (reads .entry)) ⌝ }
+{
+    difference(read_at(reads, 0), read_at(reads, 1), c)
+}
+
+// A quarter of the exact sum of four words, rounded down. The sum itself may not fit in a word: the quarters and the remainders are
+// summed apart.
+fn quarter(a: u64, b: u64, c: u64, d: u64) -> u64
+    ensures { λ r. ⌜ r ≡ (a + b + c + d) / 4 ⌝ }
+{
+    a / 4 + b / 4 + c / 4 + d / 4 + (a % 4 + b % 4 + c % 4 + d % 4) / 4
+}
+
+// Kernel 3: the exact sum of the first four reads, divided by 4, rounded down.
+fn mean_word(reads: &[u64]) -> u64
+    ensures { λ r. ⌜ r ≡ meanWord (now (reads .entry)) ⌝ }
+{
+    quarter(
+        read_at(reads, 0),
+        read_at(reads, 1),
+        read_at(reads, 2),
+        read_at(reads, 3),
+    )
+}
+
+// The larger of the two.
+fn larger(a: u64, b: u64) -> u64
+    ensures { λ r. ⌜ r ≡ max a b ⌝ }
+{
+    if a < b { b } else { a }
+}
+
+// Kernel 4: the largest read; 0 where there is none.
+fn largest_word(reads: &[u64]) -> u64
+    ensures { λ r. ⌜ r ≡ largest (now (reads .entry)) ⌝ }
+{
+    let mut top: u64 = 0;
+    let mut i: usize = 0;
+    while i < reads.len() {
+        top = larger(top, reads[i]);
+        i += 1;
+    }
+    top
+}
+
+// The word of a task, by its kernel's number, its constant c and the words it reads, in record order. A read that is not there
+// counts as 0, and where the number is no kernel's the word is 0.
+pub fn kernel_word(kernel: u64, c: u64, reads: &[u64]) -> u64
+    ensures { λ r. ⌜ r ≡ kernelWord kernel c (now (reads .entry)) ⌝ }
+{
+    match kernel {
+        0 => c,
+        1 => sum_word(c, reads),
+        2 => difference_word(c, reads),
+        3 => mean_word(reads),
+        4 => largest_word(reads),
+        _ => 0,
+    }
+}
+
+// Whether the kernel permits so many reads. No number above 4 is a kernel.
+pub fn suits_kernel(kernel: u64, reads: u64) -> bool
+    ensures { λ r. ⌜ r ≡ suits kernel reads ⌝ }
+{
+    match kernel {
+        0 => true,
+        1 => true,
+        2 => reads == 2,
+        3 => reads == 4,
+        4 => reads >= 1,
+        _ => false,
+    }
+}

@@ -1,0 +1,6 @@
+pub mod Laws
+pub mod NumberLaws
+pub mod WordLaws
+pub mod SplitLaws
+pub mod LineLaws
+pub mod Examples

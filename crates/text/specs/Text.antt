@@ -1,0 +1,9 @@
+-- Where a byte stands among others (paper 01, "The plan text": lines ended by a line feed, fields parted by one tab).
+use Prim.Native.Nat.{ℕ, suc}
+use mathlib.Core.List.{List, [], _∷_}
+use mathlib.Core.Bool.{Bool, cond}
+
+-- how many bytes stand before the first that p holds of: all of them where it holds of none
+abbrev pub before : (ℕ → Bool) → List ℕ → ℕ
+before p [] = 0
+before p (c ∷ s) = cond (p c) 0 (suc (before p s))

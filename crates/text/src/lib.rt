@@ -1,0 +1,407 @@
+// The plan text's lines: what the line at an offset says, and where the next one starts. A line says a record, whose word and numbers
+// are its fields. The order of the records and the limits of their numbers are not looked at here.
+ghost use mathlib.Core.Path.{_≡_};
+ghost use mathlib.Core.List.{[]};
+ghost use mathlib.Core.Bool.{true};
+ghost use Prim.Native.Nat.{_≤_};
+ghost use lib.ListN.{length, drop};
+ghost use Rattle.text.specs.Text.{before};
+ghost use Rattle.text.specs.Numbers.{allDigits, noLeadingZero, decimalAfter, wellFormed, numberOf};
+ghost use Rattle.text.specs.Words.{alike, keywordOf};
+ghost use Rattle.text.specs.Records.{is, firstField, split, sound, oneOf, twoOf, threeOf, loopOf, beginOf, startOf, accessOf, byWord, recordOf, recordAt};
+
+// How many bytes stand before the first b, or all of them: the one search for a tab or a line feed.
+fn find(s: &[u8], b: u8) -> usize
+    ensures { λ r. ⌜ r ≡ before (is b) (now (s .entry)) ⌝ }
+{
+    let mut i = 0;
+    while i < s.len() {
+        if s[i] == b {
+            return i;
+        }
+        i += 1;
+    }
+    i
+}
+
+// The first field, as a part of the caller's text: the bytes before the first tab, or all of them.
+fn first_field(t: &[u8]) -> &[u8]
+    ensures { λ r. ⌜ now r ≡ firstField (now (t .entry)) ⌝ }
+{
+    let n = find(t, 9);
+    &t[..n]
+}
+
+// What stands behind the first n bytes: nothing where there are no more.
+fn behind(t: &[u8], n: usize) -> &[u8]
+    ensures { λ r. ⌜ now r ≡ drop n (now (t .entry)) ⌝ }
+{
+    if t.len() < n {
+        return &t[..0];
+    }
+    &t[n..]
+}
+
+// What a field says as a number: TooLarge is in form, and above the largest word.
+pub enum Number {
+    Value(u64),
+    TooLarge,
+    Malformed,
+}
+
+// Whether every byte is a digit.
+fn all_digits(f: &[u8]) -> bool
+    ensures { λ r. ⌜ r ≡ allDigits (now (f .entry)) ⌝ }
+{
+    let mut i = 0;
+    while i < f.len() {
+        if f[i] < 48 {
+            return false;
+        }
+        if 57 < f[i] {
+            return false;
+        }
+        i += 1;
+    }
+    true
+}
+
+// Whether the first of several bytes is no 0.
+fn no_leading_zero(f: &[u8]) -> bool
+    ensures { λ r. ⌜ r ≡ noLeadingZero (now (f .entry)) ⌝ }
+{
+    if f.len() < 2 {
+        return true;
+    }
+    f[0] != 48
+}
+
+// Whether a field is 1 to 20 digits, with no leading zero except 0 itself.
+fn well_formed(f: &[u8]) -> bool
+    ensures { λ r. ⌜ r ≡ wellFormed (now (f .entry)) ⌝ }
+{
+    let n = f.len();
+    (1 <= n) & ((n <= 20) & (no_leading_zero(f) & all_digits(f)))
+}
+
+// A byte as a word.
+fn wide(x: u8) -> u64
+    ensures { λ r. ⌜ r ≡ x ⌝ }
+{
+    x as u64
+}
+
+// The number that at most 19 digits write: a word holds any such number, so no digit needs a test.
+fn decimal(f: &[u8]) -> u64
+    requires { ⌜ (length (now f) ≤ 19) × (allDigits (now f) ≡ true) ⌝ }
+    ensures { λ r. ⌜ r ≡ decimalAfter 0 (now (f .entry)) ⌝ }
+{
+    let mut value: u64 = 0;
+    let mut i = 0;
+    while i < f.len() {
+        value = value * 10 + wide(f[i] - 48);
+        i += 1;
+    }
+    value
+}
+
+// What a field says as a number. Only the last of 20 digits can lead above the largest word.
+pub fn number_of(f: &[u8]) -> Number
+    ensures { λ r. ⌜ r ≡ numberOf (now (f .entry)) ⌝ }
+{
+    if !well_formed(f) {
+        return Number::Malformed;
+    }
+    if f.len() < 20 {
+        return Number::Value(decimal(f));
+    }
+    let most = decimal(&f[..19]);
+    let last = wide(f[19] - 48);
+    if (18446744073709551615 - last) / 10 < most {
+        return Number::TooLarge;
+    }
+    Number::Value(most * 10 + last)
+}
+
+// The word that begins a line.
+pub enum Keyword {
+    Loop,
+    Start,
+    Begin,
+    In,
+    Out,
+    Inout,
+    End,
+    Unknown,
+}
+
+// Whether two parts hold the same bytes.
+fn same(a: &[u8], b: &[u8]) -> bool
+    ensures { λ r. ⌜ r ≡ alike (now (a .entry)) (now (b .entry)) ⌝ }
+{
+    if a.len() < b.len() {
+        return false;
+    }
+    if b.len() < a.len() {
+        return false;
+    }
+    let mut i = 0;
+    while i < a.len() {
+        if a[i] != b[i] {
+            return false;
+        }
+        i += 1;
+    }
+    true
+}
+
+// Which word a field is.
+pub fn keyword_of(f: &[u8]) -> Keyword
+    ensures { λ r. ⌜ r ≡ keywordOf (now (f .entry)) ⌝ }
+{
+    if same(f, b"loop") {
+        return Keyword::Loop;
+    }
+    if same(f, b"start") {
+        return Keyword::Start;
+    }
+    if same(f, b"begin") {
+        return Keyword::Begin;
+    }
+    if same(f, b"in") {
+        return Keyword::In;
+    }
+    if same(f, b"out") {
+        return Keyword::Out;
+    }
+    if same(f, b"inout") {
+        return Keyword::Inout;
+    }
+    if same(f, b"end") {
+        return Keyword::End;
+    }
+    Keyword::Unknown
+}
+
+// The numbers of two fields and of three, each in form; or not so many fields, or one of them not in form.
+pub enum Two {
+    Pair(Number, Number),
+    NoPair,
+}
+
+pub enum Three {
+    Triple(Number, Number, Number),
+    NoTriple,
+}
+
+// Whether a number is in form.
+fn is_sound(x: Number) -> bool
+    ensures { λ r. ⌜ r ≡ sound x ⌝ }
+{
+    match x {
+        Number::Value(_) => true,
+        Number::TooLarge => true,
+        Number::Malformed => false,
+    }
+}
+
+// The number of exactly one field.
+fn one_number(t: &[u8]) -> Number
+    ensures { λ r. ⌜ r ≡ oneOf (split 9 (now (t .entry))) ⌝ }
+{
+    let field = first_field(t);
+    if field.len() < t.len() {
+        return Number::Malformed;
+    }
+    number_of(field)
+}
+
+// The numbers of exactly two fields.
+fn two_numbers(t: &[u8]) -> Two
+    ensures { λ r. ⌜ r ≡ twoOf (split 9 (now (t .entry))) ⌝ }
+{
+    let field = first_field(t);
+    let n = field.len();
+    if t.len() <= n {
+        return Two::NoPair;
+    }
+    let x = number_of(field);
+    let y = one_number(behind(t, n + 1));
+    if is_sound(x) & is_sound(y) {
+        Two::Pair(x, y)
+    } else {
+        Two::NoPair
+    }
+}
+
+// The numbers of exactly three fields.
+fn three_numbers(t: &[u8]) -> Three
+    ensures { λ r. ⌜ r ≡ threeOf (split 9 (now (t .entry))) ⌝ }
+{
+    let field = first_field(t);
+    let n = field.len();
+    if t.len() <= n {
+        return Three::NoTriple;
+    }
+    let x = number_of(field);
+    let rest = two_numbers(behind(t, n + 1));
+    match rest {
+        Two::Pair(y, z) => {
+            if is_sound(x) {
+                Three::Triple(x, y, z)
+            } else {
+                Three::NoTriple
+            }
+        }
+        Two::NoPair => Three::NoTriple,
+    }
+}
+
+// How a task names a region.
+pub enum Mode {
+    In,
+    Out,
+    Inout,
+}
+
+// What a line says. Every number that it holds is in form.
+pub enum Record {
+    Loop {
+        passes: Number,
+        ranks: Number,
+        regions: Number,
+    },
+    Start {
+        region: Number,
+        value: Number,
+    },
+    Begin {
+        rank: Number,
+        kernel: Number,
+        constant: Number,
+    },
+    Access {
+        mode: Mode,
+        region: Number,
+    },
+    End,
+    Unreadable,
+}
+
+// What stands at an offset: a line, with the offset behind its line feed, or bytes that no line feed ends.
+pub enum RecordAt {
+    Line { record: Record, next: usize },
+    Unended,
+}
+
+// A `loop` line of these fields.
+fn loop_of(x: Three) -> Record
+    ensures { λ r. ⌜ r ≡ loopOf x ⌝ }
+{
+    match x {
+        Three::Triple(a, b, c) => Record::Loop {
+            passes: a,
+            ranks: b,
+            regions: c,
+        },
+        Three::NoTriple => Record::Unreadable,
+    }
+}
+
+// A `begin` line of these fields.
+fn begin_of(x: Three) -> Record
+    ensures { λ r. ⌜ r ≡ beginOf x ⌝ }
+{
+    match x {
+        Three::Triple(a, b, c) => Record::Begin {
+            rank: a,
+            kernel: b,
+            constant: c,
+        },
+        Three::NoTriple => Record::Unreadable,
+    }
+}
+
+// A `start` line of these fields.
+fn start_of(x: Two) -> Record
+    ensures { λ r. ⌜ r ≡ startOf x ⌝ }
+{
+    match x {
+        Two::Pair(a, b) => Record::Start {
+            region: a,
+            value: b,
+        },
+        Two::NoPair => Record::Unreadable,
+    }
+}
+
+// An `in`, `out` or `inout` line of this field.
+fn access_of(mode: Mode, n: Number) -> Record
+    ensures { λ r. ⌜ r ≡ accessOf mode n ⌝ }
+{
+    if is_sound(n) {
+        Record::Access { mode, region: n }
+    } else {
+        Record::Unreadable
+    }
+}
+
+// What a line says that is a word alone.
+fn without_fields(word: Keyword) -> Record
+    ensures { λ r. ⌜ r ≡ byWord word [] ⌝ }
+{
+    match word {
+        Keyword::End => Record::End,
+        Keyword::Loop => Record::Unreadable,
+        Keyword::Start => Record::Unreadable,
+        Keyword::Begin => Record::Unreadable,
+        Keyword::In => Record::Unreadable,
+        Keyword::Out => Record::Unreadable,
+        Keyword::Inout => Record::Unreadable,
+        Keyword::Unknown => Record::Unreadable,
+    }
+}
+
+// What a line says that has t behind the tab after its word.
+fn with_fields(word: Keyword, t: &[u8]) -> Record
+    ensures { λ r. ⌜ r ≡ byWord word (split 9 (now (t .entry))) ⌝ }
+{
+    match word {
+        Keyword::Loop => loop_of(three_numbers(t)),
+        Keyword::Start => start_of(two_numbers(t)),
+        Keyword::Begin => begin_of(three_numbers(t)),
+        Keyword::In => access_of(Mode::In, one_number(t)),
+        Keyword::Out => access_of(Mode::Out, one_number(t)),
+        Keyword::Inout => access_of(Mode::Inout, one_number(t)),
+        Keyword::End => Record::Unreadable,
+        Keyword::Unknown => Record::Unreadable,
+    }
+}
+
+// What a line says, handed in without its line feed.
+pub fn record_of(line: &[u8]) -> Record
+    ensures { λ r. ⌜ r ≡ recordOf (now (line .entry)) ⌝ }
+{
+    let field = first_field(line);
+    let word = keyword_of(field);
+    let n = field.len();
+    if line.len() <= n {
+        return without_fields(word);
+    }
+    with_fields(word, behind(line, n + 1))
+}
+
+// What the line that starts at `at` says, and where the next one starts. Unended where no line feed follows, and beyond the end.
+pub fn record_at(s: &[u8], at: usize) -> RecordAt
+    ensures { λ r. ⌜ r ≡ recordAt (now (s .entry)) at ⌝ }
+{
+    let t = behind(s, at);
+    let n = find(t, 10);
+    if t.len() <= n {
+        return RecordAt::Unended;
+    }
+    RecordAt::Line {
+        record: record_of(&t[..n]),
+        next: at + n + 1,
+    }
+}
