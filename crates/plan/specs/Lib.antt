@@ -1,0 +1,5 @@
+pub mod Limits
+pub mod Layout
+pub mod Form
+pub mod Wanted
+pub mod Changes

@@ -1,0 +1,17 @@
+pub mod Lists
+pub mod Limits
+pub mod Starts
+pub mod Accepted
+pub mod Back
+pub mod Canonical
+pub mod Decimal
+pub mod Lines
+pub mod Sizes
+pub mod Runs
+pub mod Round
+pub mod Forms
+pub mod Theorems
+pub mod Unique
+pub mod Says
+pub mod Holds
+pub mod Cases

@@ -1,0 +1,5 @@
+pub mod Plan
+pub mod Valid
+pub mod Reading
+pub mod Written
+pub mod Laws

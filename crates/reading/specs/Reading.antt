@@ -1,0 +1,143 @@
+-- Reading a text (paper 01, "Refusals that come from the input"): 1 to 10, in their order.
+use Prim.Native.Nat.{ℕ, zero, suc, _+_, _*_}
+use mathlib.Core.Bool.{Bool, true, false, cond, not, _&&_}
+use mathlib.Core.List.{List, [], _∷_, _++_, map}
+use lib.ListN.{length}
+use lib.Dec.{eqb, ltb, leb}
+use Rattle.text.specs.declared.Number.{Number}
+use Rattle.text.specs.declared.Number.the-variants.{Value, TooLarge, Malformed}
+use Rattle.text.specs.declared.Mode.{Mode}
+use Rattle.text.specs.declared.Record.{Record}
+use Rattle.text.specs.declared.Record.the-variants.{Loop, Begin, End, Unreadable}
+use Rattle.text.specs.Records.{split, recordOf}
+use Rattle.finite.specs.Lists.{mem}
+use Rattle.kernels.specs.Kernels.{suits}
+use Rattle.body.specs.Transfers.{transferCount}
+use Rattle.plan.specs.Limits.{maxBytes, maxPasses, maxRanks, maxRegions, maxTasks, maxAccesses, maxTransfers, maxKernel, maxWord}
+use Rattle.plan.specs.Layout.{bodyOf}
+use Rattle.reading.specs.Plan.{Start, Access, Task, Plan, started, named, readCount, wordsOf}
+
+-- the answer: the plan's words, or the refusal's number and line
+pub data Reading : Type 0 where
+  accepted : List ℕ → Reading
+  refused : ℕ → ℕ → Reading
+
+-- what has been read: nothing; records with no task open; records, and an open task
+pub data State : Type 0 where
+  first : State
+  closed : Plan → State
+  opened : Plan → Task → State
+
+pub data Step : Type 0 where
+  next : State → Step
+  refuse : ℕ → Step
+
+-- where the test fails: that refusal
+abbrev pub need : Bool → ℕ → Step → Step
+need t n s = cond t s (refuse n)
+
+-- a number from lowest to highest
+abbrev pub lies : ℕ → ℕ → Number → Bool
+lies lowest highest (Value n) = leb lowest n && leb n highest
+lies lowest highest TooLarge = false
+lies lowest highest Malformed = false
+
+abbrev pub below : ℕ → Number → Bool
+below limit (Value n) = ltb n limit
+below limit TooLarge = false
+below limit Malformed = false
+
+abbrev pub isWord : Number → Bool
+isWord = lies 0 maxWord
+
+abbrev pub valueOf : Number → ℕ
+valueOf (Value n) = n
+valueOf TooLarge = 0
+valueOf Malformed = 0
+
+abbrev pub noTaskYet : Plan → Bool
+noTaskYet P = eqb (length (P .tasks)) 0
+
+abbrev pub withLoop : ℕ → ℕ → ℕ → Plan
+withLoop p q n = record { passes = p; ranks = q; regions = n; starts = []; tasks = [] }
+
+abbrev pub withStart : Plan → ℕ → ℕ → Plan
+withStart P g v =
+    record { passes = P .passes; ranks = P .ranks; regions = P .regions; starts = P .starts ++ (record { region = g; value = v } ∷ []); tasks = P .tasks }
+
+abbrev pub withTask : Plan → Task → Plan
+withTask P t = record { passes = P .passes; ranks = P .ranks; regions = P .regions; starts = P .starts; tasks = P .tasks ++ (t ∷ []) }
+
+abbrev pub newTask : ℕ → ℕ → ℕ → Task
+newTask q k c = record { rank = q; kernel = k; constant = c; accesses = [] }
+
+abbrev pub withAccess : Task → Mode → ℕ → Task
+withAccess t m g =
+    record { rank = t .rank; kernel = t .kernel; constant = t .constant; accesses = t .accesses ++ (record { mode = m; region = g } ∷ []) }
+
+-- what a record does. Within a line: 1, 2, 4 or 5, 3 from left to right, 10, 6, 9
+abbrev pub step : State → Record → Step
+step first (Loop p q n) =
+    need (lies 0 maxPasses p) 3
+    (need (lies 1 maxRanks q) 3
+    (need (lies 1 maxRegions n) 3
+    (next (closed (withLoop (valueOf p) (valueOf q) (valueOf n))))))
+step first (Record.Start g v) = refuse 2
+step first (Begin q k c) = refuse 2
+step first (Record.Access m g) = refuse 2
+step first End = refuse 2
+step first Unreadable = refuse 1
+step (closed P) (Loop p q n) = refuse 2
+step (closed P) (Record.Start g v) =
+    need (noTaskYet P) 2
+    (need (below (P .regions) g) 3
+    (need (isWord v) 3
+    (need (not (mem (valueOf g) (started (P .starts)))) 6
+    (next (closed (withStart P (valueOf g) (valueOf v)))))))
+step (closed P) (Begin q k c) =
+    need (below (P .ranks) q) 3
+    (need (lies 0 maxKernel k) 3
+    (need (isWord c) 3
+    (need (ltb (length (P .tasks)) maxTasks) 10
+    (next (opened P (newTask (valueOf q) (valueOf k) (valueOf c)))))))
+step (closed P) (Record.Access m g) = refuse 5
+step (closed P) End = refuse 5
+step (closed P) Unreadable = refuse 1
+step (opened P t) (Loop p q n) = refuse 2
+step (opened P t) (Record.Start g v) = refuse 2
+step (opened P t) (Begin q k c) = refuse 4
+step (opened P t) (Record.Access m g) =
+    need (below (P .regions) g) 3
+    (need (ltb (length (t .accesses)) maxAccesses) 10
+    (need (not (mem (valueOf g) (named (t .accesses)))) 6
+    (next (opened P (withAccess t m (valueOf g))))))
+step (opened P t) End =
+    need (suits (t .kernel) (readCount (t .accesses))) 9
+    (next (closed (withTask P t)))
+step (opened P t) Unreadable = refuse 1
+
+abbrev pub isEmpty : List ℕ → Bool
+isEmpty [] = true
+isEmpty (c ∷ l) = false
+
+-- after the last line, n being one past it: 7, 8, then 10 for transfers; an empty text is 2
+abbrev pub atEnd : ℕ → State → Reading
+atEnd n first = refused 2 n
+atEnd n (opened P t) = refused 7 n
+atEnd n (closed P) =
+    cond (noTaskYet P) (refused 8 n)
+    (cond (leb (transferCount (bodyOf (wordsOf P))) maxTransfers) (accepted (wordsOf P)) (refused 10 n))
+
+-- after line n: its refusal, or on with the next
+abbrev pub onStep : ℕ → (State → Reading) → Step → Reading
+onStep n k (next s) = k s
+onStep n k (refuse why) = refused why n
+
+-- the lines from line n on: what follows the last line feed must be empty
+abbrev pub readFrom : ℕ → State → List (List ℕ) → Reading
+readFrom n s [] = refused 1 n
+readFrom n s (l ∷ []) = cond (isEmpty l) (atEnd n s) (refused 1 n)
+readFrom n s (l ∷ m ∷ ls) = onStep n (λ s′. readFrom (n + 1) s′ (m ∷ ls)) (step s (recordOf l))
+
+unfoldable pub readOf : List ℕ → Reading
+readOf text = cond (ltb maxBytes (length text)) (refused 10 0) (readFrom 1 first (split 10 text))

@@ -1,0 +1,56 @@
+-- The written text of a plan (paper 01, "The plan text").
+use Prim.Native.Nat.{ℕ, zero, suc, _+_, _/_, _%_}
+use mathlib.Core.Bool.{cond}
+use mathlib.Core.List.{List, [], _∷_, _++_}
+use lib.Dec.{ltb}
+use Rattle.text.specs.declared.Number.{Number}
+use Rattle.text.specs.declared.Number.the-variants.{Value, TooLarge, Malformed}
+use Rattle.text.specs.declared.Mode.{Mode}
+use Rattle.text.specs.declared.Record.{Record}
+use Rattle.text.specs.declared.Record.the-variants.{Loop, Begin, End, Unreadable}
+use Rattle.text.specs.Words.{wordBegin, wordEnd, wordIn, wordInout, wordLoop, wordOut, wordStart}
+use Rattle.reading.specs.Plan.{Access, Plan, Start, Task, planOf}
+
+-- n in decimal, for n below 10 to the k + 1
+abbrev pub decimal : ℕ → ℕ → List ℕ
+decimal zero n = (48 + n) ∷ []
+decimal (suc k) n = cond (ltb n 10) ((48 + n) ∷ []) (decimal k (n / 10) ++ ((48 + n % 10) ∷ []))
+
+unfoldable pub digits : Number → List ℕ
+digits (Value n) = decimal 19 n
+digits TooLarge = []
+digits Malformed = []
+
+-- the line of a record, without its line feed
+abbrev pub line : Record → List ℕ
+line (Loop p q n) = wordLoop ++ (9 ∷ (digits p ++ (9 ∷ (digits q ++ (9 ∷ digits n)))))
+line (Record.Start g v) = wordStart ++ (9 ∷ (digits g ++ (9 ∷ digits v)))
+line (Begin q k c) = wordBegin ++ (9 ∷ (digits q ++ (9 ∷ (digits k ++ (9 ∷ digits c)))))
+line (Record.Access Mode.In g) = wordIn ++ (9 ∷ digits g)
+line (Record.Access Mode.Out g) = wordOut ++ (9 ∷ digits g)
+line (Record.Access Mode.Inout g) = wordInout ++ (9 ∷ digits g)
+line End = wordEnd
+line Unreadable = []
+
+abbrev pub startRecords : List Start → List Record
+startRecords [] = []
+startRecords (s ∷ l) = Record.Start (Value (s .region)) (Value (s .value)) ∷ startRecords l
+
+abbrev pub accessRecords : List Access → List Record
+accessRecords [] = []
+accessRecords (a ∷ l) = Record.Access (a .mode) (Value (a .region)) ∷ accessRecords l
+
+abbrev pub taskRecords : List Task → List Record
+taskRecords [] = []
+taskRecords (t ∷ l) = Begin (Value (t .rank)) (Value (t .kernel)) (Value (t .constant)) ∷ (accessRecords (t .accesses) ++ (End ∷ taskRecords l))
+
+abbrev pub records : Plan → List Record
+records P = Loop (Value (P .passes)) (Value (P .ranks)) (Value (P .regions)) ∷ (startRecords (P .starts) ++ taskRecords (P .tasks))
+
+-- the lines of records, each ended by a line feed
+abbrev pub textFrom : List Record → List ℕ
+textFrom [] = []
+textFrom (r ∷ l) = line r ++ (10 ∷ textFrom l)
+
+unfoldable pub textOf : List ℕ → List ℕ
+textOf w = textFrom (records (planOf w))
