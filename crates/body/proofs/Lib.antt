@@ -1,5 +1,6 @@
 pub mod Writers
 pub mod ItemList
+pub mod ItemCount
 pub mod ItemOrder
 pub mod Places
 pub mod Holders

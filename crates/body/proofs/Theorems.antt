@@ -25,6 +25,7 @@ use Rattle.body.specs.Meaning.{Meaning}
 use Rattle.body.specs.Computes.{InOrder, Computes, Laws}
 use Rattle.body.proofs.Writers.{last-writer, no-writer, sources, last-some, last-none}
 use Rattle.body.proofs.ItemList.{tasks-listed, sends-listed, receives-listed}
+use Rattle.body.proofs.ItemCount.{items-counted}
 use Rattle.body.proofs.ItemOrder.{ordered, listed-once, send-then, receive-after}
 use Rattle.body.proofs.Places.{slots-apart, copies-apart, copy-no-slot, copy-opening, slot-opening, one-rank}
 use Rattle.body.proofs.Holders.{holder, holder-start, up-to-date-own}
@@ -72,6 +73,7 @@ module _ (B : Body) where
           tasks-listed = tasks-listed B;
           sends-listed = sends-listed B;
           receives-listed = receives-listed B;
+          counted = items-counted B;
           ordered = ordered B F;
           listed-once = listed-once B F;
           send-then = send-then B F;

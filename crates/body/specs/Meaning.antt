@@ -1,5 +1,5 @@
 -- What the definitions of transfers, items and places mean (proved in proofs/Theorems.antt).
-use Prim.Native.Nat.{ℕ, suc, _<_}
+use Prim.Native.Nat.{ℕ, suc, _+_, _*_, _<_}
 use mathlib.Core.Path.{_≡_}
 use mathlib.Core.Bool.{true, false}
 use mathlib.Core.Logic.{_⊎_, _↔_}
@@ -9,7 +9,7 @@ use Rattle.finite.specs.Lists.{mem, position}
 use Rattle.unroll.specs.Instances.{Before}
 use Rattle.unroll.specs.Edges.{Edge}
 use Rattle.body.specs.Body.{Body}
-use Rattle.body.specs.Transfers.{lastBefore, source}
+use Rattle.body.specs.Transfers.{lastBefore, source, transferCount}
 use Rattle.body.specs.Items.{Item, task, send, receive, itemCount, itemAt}
 use Rattle.body.specs.Places.{slot, copy, initial, system}
 
@@ -67,6 +67,7 @@ module _ (B : Body) where
     pub tasks-listed : (i : ℕ) → Listed (task i) ↔ (i < B .tasks)
     pub sends-listed : (i g q : ℕ) → Listed (send i g q) ↔ IsTransfer i g q
     pub receives-listed : (i g q : ℕ) → Listed (receive i g q) ↔ IsTransfer i g q
+    pub counted : itemCount B ≡ B .tasks + 2 * transferCount B
     pub ordered : (a b : ℕ) → a < b → b < itemCount B → Less (key (itemAt B a)) (key (itemAt B b))
     pub listed-once : (a b : ℕ) → a < itemCount B → b < itemCount B → itemAt B a ≡ itemAt B b → a ≡ b
     pub send-then : (a i g q : ℕ) → a < itemCount B → itemAt B a ≡ send i g q →

@@ -46,6 +46,9 @@ unfolding allBelow
 all-of p zero f = refl
 all-of p (suc n) f = rw (all-of p n (λ i l. f i (omega arith)), f n (omega arith))
 
+pub all-fails : (p : ℕ → Bool) (n i : ℕ) → i < n → p i ≡ false → allBelow n p ≡ false
+all-fails p n i l h = false-of (allBelow n p) (λ e. not-both (all-at p n i e l) h)
+
 -- anyBelow
 
 pub any-none : (p : ℕ → Bool) → false ≡ anyBelow 0 p
@@ -90,6 +93,15 @@ pub any-ext : (n : ℕ) (p q : ℕ → Bool) → ((i : ℕ) → i < n → p i �
 unfolding anyBelow
 any-ext zero p q h = refl
 any-ext (suc n) p q h = rw (any-ext n p q (λ i k. h i (omega arith)), h n (omega arith))
+
+pub all-not : (n : ℕ) (p : ℕ → Bool) → allBelow n (λ i. not (p i)) ≡ not (anyBelow n p)
+unfolding allBelow anyBelow
+all-not zero p = refl
+all-not (suc n) p = rw (all-not n p) (both (anyBelow n p) (p n))
+  where
+    both : (a b : Bool) → (not a && not b) ≡ not (a || b)
+    both true b = refl
+    both false b = refl
 
 -- countBelow
 

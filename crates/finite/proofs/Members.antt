@@ -1,4 +1,4 @@
--- Laws of membership: of numbers by `mem`, and of any elements by the kit's List·Memᴰ, here In.
+-- Laws of membership: of numbers by `mem`, and of any elements by the kit's List·Memᴰ, here In. And of `distinct`.
 use Prim.Native.Nat.{ℕ, zero, suc, _<_}
 use mathlib.Core.Path.{_≡_, refl, sym, _∙_, ap, ap₂, subst}
 use mathlib.Core.Bool.{Bool, true, false, cond, not, _&&_, _||_, or-true, or-false, or-assoc, and-eq-true-iff}

@@ -4,7 +4,7 @@ use mathlib.Core.Path.{_≡_, refl, sym, _∙_, ap, ap₂}
 use mathlib.Core.Bool.{Bool, true, false, not, _||_, and-eq-true-iff}
 use mathlib.Core.List.{List, [], _∷_, _++_, map}
 use native.Mathlib.Omega.{arith}
-use borrow.Author.Tests.{eqb-true, eqb-false, eq-eqb, ne-eqb, not-true}
+use borrow.Author.Tests.{not-true}
 use lib.Dec.{eqb}
 use lib.ListN.{length, getD}
 use lib.Seq.{ext-getD}
@@ -13,10 +13,7 @@ use Rattle.finite.specs.Lists.{distinct, mem, tabulate}
 use Rattle.finite.proofs.Below.{any-at, any-never, below-suc}
 use Rattle.finite.proofs.Lists.{getD-tabulate, length-tabulate}
 use Rattle.finite.proofs.Members.{distinct-snoc, mem-append}
-use Rattle.finite.proofs.Tests.{false-of, not-both, or-parts}
-
-pub eqb-swap : (x y : ℕ) → eqb x y ≡ false → eqb y x ≡ false
-eqb-swap x y h = ne-eqb y x (λ e. eqb-false x y h (sym e))
+use Rattle.finite.proofs.Tests.{eqb-comm, false-of, not-both, or-parts}
 
 pub distinct-before : (l : List ℕ) (x : ℕ) (r : List ℕ) → distinct (l ++ (x ∷ r)) ≡ true → mem x l ≡ false
 unfolding distinct mem
@@ -25,7 +22,7 @@ distinct-before (y ∷ l) x r h =
     let a = and-eq-true-iff (not (mem y (l ++ (x ∷ r)))) (distinct (l ++ (x ∷ r))) .0 h in
     let n = or-parts (mem y l) (mem y (x ∷ r)) (sym (mem-append y l (x ∷ r)) ∙ not-true _ (a .0)) in
     let e = or-parts (eqb y x) (mem y r) (n .1) in
-    rw (eqb-swap y x (e .0)) (distinct-before l x r (a .1))
+    rw (eqb-comm x y ∙ (e .0)) (distinct-before l x r (a .1))
 
 distinct-init : (l : List ℕ) (x : ℕ) → distinct (l ++ (x ∷ [])) ≡ true → distinct l ≡ true
 unfolding distinct mem
@@ -51,7 +48,7 @@ unfolding tabulate distinct
 distinct-tabulate zero f h = refl
 distinct-tabulate (suc n) f h =
     distinct-snoc (tabulate n f) (f n) (distinct-tabulate n f (λ i j k m. h i j k (omega arith)))
-    (mem-tabulate (f n) n f ∙ any-never (λ i. eqb (f n) (f i)) n (λ i l. eqb-swap (f i) (f n) (h i n l (omega arith))))
+    (mem-tabulate (f n) n f ∙ any-never (λ i. eqb (f n) (f i)) n (λ i l. eqb-comm (f n) (f i) ∙ h i n l (omega arith)))
 
 pub distinct-tabulate-at : (n : ℕ) (f : ℕ → ℕ) (i j : ℕ) → distinct (tabulate n f) ≡ true → i < j → j < n → eqb (f i) (f j) ≡ false
 unfolding tabulate
@@ -59,11 +56,8 @@ distinct-tabulate-at zero f i j h k m = absurd (omega arith)
 distinct-tabulate-at (suc n) f i j h k m =
     below-suc (λ j. i < j → eqb (f i) (f j) ≡ false) n
     (λ j m k. distinct-tabulate-at n f i j (distinct-init (tabulate n f) (f n) h) k m)
-    (λ k. false-of _ (λ e. not-both (any-at (λ i. eqb (f n) (f i)) n i k (same (f i) (f n) e)) (sym (mem-tabulate (f n) n f) ∙ distinct-before (tabulate n f) (f n) [] h)))
+    (λ k. false-of _ (λ e. not-both (any-at (λ i. eqb (f n) (f i)) n i k (eqb-comm (f n) (f i) ∙ e)) (sym (mem-tabulate (f n) n f) ∙ distinct-before (tabulate n f) (f n) [] h)))
     j m k
-  where
-    same : (x y : ℕ) → eqb x y ≡ true → eqb y x ≡ true
-    same x y e = eq-eqb y x (sym (eqb-true x y e))
 
 module _ {X : Type 0} where
   pub tabulate-ext : (n : ℕ) (f g : ℕ → X) → ((i : ℕ) → i < n → f i ≡ g i) → tabulate n f ≡ tabulate n g

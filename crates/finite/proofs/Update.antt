@@ -1,4 +1,4 @@
--- Laws of update, put and putBelow.
+-- Laws of update, put, set and putBelow.
 use Prim.Native.Nat.{ℕ, zero, suc, _+_, _-_, _≤_}
 use mathlib.Core.Path.{_≡_, refl, sym, _∙_, ap, subst}
 use mathlib.Core.Bool.{Bool, true, false, cond}

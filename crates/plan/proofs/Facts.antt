@@ -16,7 +16,7 @@ use Rattle.finite.proofs.Members.{mem-in, distinct-gather}
 use Rattle.finite.proofs.Lists.{in-gather-from}
 use Rattle.kernels.specs.Kernels.{suits}
 use Rattle.body.specs.Body.{Fits}
-use Rattle.plan.specs.Layout.{at, passesOf, ranksOf, regionsOf, tasksOf, startingOf, rankOf, kernelOf, accessesOf, accessAt, regionAt, isRead, isWritten, readsOf, writesOf, bodyOf}
+use Rattle.plan.specs.Layout.{at, passesOf, ranksOf, regionsOf, tasksOf, startingOf, rankOf, kernelOf, accessesOf, accessAt, regionAt, isRead, isWritten, bodyOf}
 use Rattle.plan.specs.Form.{countsOk, valueOk, accessOk, restOk, usedOk, unusedOk, taskOk, wordsOk}
 
 -- what is known of task i, one that the plan has

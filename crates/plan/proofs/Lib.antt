@@ -1,3 +1,14 @@
 pub mod Facts
+pub mod Rest
+pub mod Naming
+pub mod Scanning
+pub mod Agrees
+pub mod Rows
+pub mod Last
+pub mod Marks
+pub mod Flags
+pub mod Tally
+pub mod Found
 pub mod Trace
 pub mod Bound
+pub mod Answers

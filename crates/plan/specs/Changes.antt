@@ -1,4 +1,5 @@
--- A bound on the number of transfers that is cheap to count. Nothing here need be believed: the proofs show that it is one.
+-- An upper bound on the number of transfers that is cheap to count, so that the in-form test need not search for them where it is low.
+-- Nothing here need be believed: `proofs/Bound.antt` shows that it is a bound.
 use Prim.Native.Nat.{ℕ, zero, suc}
 use mathlib.Core.Bool.{Bool, cond, not}
 use mathlib.Core.List.{List}
@@ -18,9 +19,10 @@ module _ (w : List ℕ) where
   lastRank zero g = none
   lastRank (suc i) g = cond (names i g) (some (rankOf w i)) (lastRank i g)
 
-  -- the region of access a of task i was last named on another rank, or not at all
+  -- the region of access a of task i was last named on another rank, or not at all, in body order from its first task
   unfoldable pub changed : ℕ → ℕ → Bool
   changed i a = not (equals (lastRank i (regionAt w i a)) (rankOf w i))
 
+  -- how many accesses are such
   unfoldable pub changeCount : ℕ
   changeCount = sumBelow (tasksOf w) (λ i. countBelow (accessesOf w i) (changed i))

@@ -1,4 +1,4 @@
--- When words are in form: what reading leaves for some text, which `reading` proves, said as tests on the words.
+-- When the 1,668 words of a plan are in form, as tests on the words: exactly what reading leaves for some text, which `reading` proves.
 use Prim.Native.Nat.{ℕ, _+_, _*_, _≤_}
 use mathlib.Core.Path.{_≡_}
 use mathlib.Core.Bool.{Bool, cond, not, _&&_, _||_}

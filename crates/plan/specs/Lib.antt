@@ -3,3 +3,5 @@ pub mod Layout
 pub mod Form
 pub mod Wanted
 pub mod Changes
+pub mod Scan
+pub mod Search

@@ -15,3 +15,5 @@ pub mod Unique
 pub mod Says
 pub mod Holds
 pub mod Cases
+pub mod Numbers
+pub mod FirstFit

@@ -30,17 +30,17 @@ use Rattle.reading.proofs.Lines.{plain}
 use Rattle.reading.proofs.Round.{text-read}
 use Rattle.reading.proofs.Unique.{join, join-split, line-back}
 
-abbrev openRecords : Task → List Record
+abbrev pub openRecords : Task → List Record
 openRecords t = Begin (Value (t .rank)) (Value (t .kernel)) (Value (t .constant)) ∷ accessRecords (t .accesses)
 
 -- the records that lead to a state
-abbrev recordsOf : State → List Record
+abbrev pub recordsOf : State → List Record
 recordsOf first = []
 recordsOf (closed P) = records P
 recordsOf (opened P t) = records P ++ openRecords t
 
 -- a step adds its record, whose numbers are words
-abbrev Adds : List Record → Record → Step → Type 0
+abbrev pub Adds : List Record → Record → Step → Type 0
 Adds rs r (next s) = (recordsOf s ≡ rs ++ (r ∷ [])) × (plain r ≡ true)
 Adds rs r (refuse n) = Unit
 
@@ -112,7 +112,7 @@ access-adds P t m g =
     ap (λ r. records P ++ (Begin (Value (t .rank)) (Value (t .kernel)) (Value (t .constant)) ∷ r)) (accesses-snoc (t .accesses) m g)
     ∙ sym (append-assoc (records P) (openRecords t) (Record.Access m (Value g) ∷ []))
 
-step-adds : (s : State) (r : Record) → good s → Adds (recordsOf s) r (step s r)
+pub step-adds : (s : State) (r : Record) → good s → Adds (recordsOf s) r (step s r)
 step-adds first (Loop p q n) G =
     adds-need _ _ (lies 0 maxPasses p) 3 _ λ a.
     adds-need _ _ (lies 1 maxRanks q) 3 _ λ b.

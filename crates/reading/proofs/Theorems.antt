@@ -23,9 +23,11 @@ use Rattle.reading.specs.Valid.{accessFits, every, openFits, taskFits}
 use Rattle.reading.specs.Written.{textOf}
 use Rattle.reading.proofs.Accepted.{accepted-kept}
 use Rattle.reading.proofs.Back.{is-canonical, noAccess, word-at}
+use Rattle.reading.proofs.FirstFit.{read-answers, too-long}
 use Rattle.reading.proofs.Forms.{canonical-ok, mode-few, ok-canonical, tests}
 use Rattle.reading.proofs.Holds.{held}
 use Rattle.reading.proofs.Limits.{Limits, Opens, is-open, limits, opens}
+use Rattle.reading.proofs.Numbers.{refusal-known}
 use Rattle.reading.proofs.Round.{short}
 use Rattle.reading.proofs.Says.{accepted-says, says-accepted}
 use Rattle.reading.proofs.Starts.{start-fits}
@@ -142,4 +144,8 @@ laws =
       in-form = in-form;
       exactly = λ w W. (λ h. (textOf w, reads-back w W h), λ r. in-form (r .0) w (r .1));
       zeros = zeros;
+      too-long = too-long;
+      first-fits = read-answers;
+      numbers = refusal-known;
+      fits = λ w h. fits w (form-parts w h .0);
     }

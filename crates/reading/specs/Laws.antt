@@ -2,17 +2,20 @@
 use Prim.Native.Nat.{ℕ, _≤_, _<_}
 use mathlib.Core.Path.{_≡_}
 use mathlib.Core.Bool.{true, false}
-use mathlib.Core.Logic.{_↔_}
-use mathlib.Core.List.{List}
+use mathlib.Core.Logic.{_↔_, _⊎_}
+use mathlib.Core.List.{List, []}
 use lib.ListN.{length, replicate}
+use Rattle.body.specs.Body.{Fits}
 use Rattle.body.specs.Transfers.{transferCount}
+use Rattle.text.specs.Records.{split}
 use Rattle.plan.specs.Form.{Words, inForm}
 use Rattle.plan.specs.Layout.{bodyOf, constantOf, kernelOf, passesOf, rankOf, ranksOf, readsOf, regionsOf, startingOf, tasksOf, writesOf}
 use Rattle.plan.specs.Limits.{maxBytes, maxTransfers}
 use Rattle.reading.specs.Plan.{Plan, readMode, regionsWhere, startAt, taskAt, taskOf, wordsOf, writeMode}
-use Rattle.reading.specs.Reading.{accepted, readOf}
+use Rattle.reading.specs.Reading.{Reading, accepted, readOf, refused}
+use Rattle.reading.specs.Refusals.{Fit, fit, fitFrom, noFit}
 use Rattle.reading.specs.Valid.{valid}
-use Rattle.reading.specs.Written.{records, textFrom, textOf}
+use Rattle.reading.specs.Written.{line, records, textFrom, textOf}
 
 -- the text says the plan P: its lines are those of P's records in their order, and no limit is exceeded
 pub record Says (text : List ℕ) (P : Plan) : Type 0 where
@@ -36,10 +39,21 @@ pub record Holds (w : List ℕ) (P : Plan) : Type 0 where
   pub reads : (i : ℕ) → i < length (P .tasks) → readsOf w i ≡ regionsWhere readMode (taskAt (P .tasks) i .accesses)
   pub writes : (i : ℕ) → i < length (P .tasks) → writesOf w i ≡ regionsWhere writeMode (taskAt (P .tasks) i .accesses)
 
+-- what reading answers, by what fits
+abbrev pub Answers : Reading → Fit → Type 0
+Answers r (fit n line) = r ≡ refused n line
+Answers r (noFit line) = (r ≡ refused 10 line) ⊎ ((w : List ℕ) × (r ≡ accepted w))
+
 pub record Laws : Type 0 where
   -- a text is accepted exactly if it says a plan, and is read to that plan's words
   pub accepts : (text w : List ℕ) → (readOf text ≡ accepted w) ↔ ((P : Plan) × Says text P × (w ≡ wordsOf P))
   pub holds : (P : Plan) → valid P ≡ true → Holds (wordsOf P) P
+  -- a text too long is refused before any line. Else the answer is the first refusal that fits; where none fits the text is accepted, or has
+  -- too many transfers
+  pub too-long : (text : List ℕ) → maxBytes < length text → readOf text ≡ refused 10 0
+  pub first-fits : (text : List ℕ) → length text ≤ maxBytes → Answers (readOf text) (fitFrom 1 [] (split 10 text))
+  -- a refusal has one of the numbers 1 to 10, so that 0 can say that there is none
+  pub numbers : (text : List ℕ) (n line : ℕ) → readOf text ≡ refused n line → (1 ≤ n) × (n ≤ 10)
   -- words in form are read back from their written text, which is no longer than a text may be
   pub short : (w : List ℕ) → Words w → inForm w ≡ true → length (textOf w) ≤ maxBytes
   pub reads-back : (w : List ℕ) → Words w → inForm w ≡ true → readOf (textOf w) ≡ accepted w
@@ -49,3 +63,5 @@ pub record Laws : Type 0 where
   -- so words are in form exactly if some text is read to them
   pub exactly : (w : List ℕ) → Words w → (inForm w ≡ true) ↔ ((text : List ℕ) × (readOf text ≡ accepted w))
   pub zeros : (n : ℕ) → inForm (replicate n 0) ≡ false
+  -- the body of words in form fits, which is what the theory of bodies asks
+  pub fits : (w : List ℕ) → inForm w ≡ true → Fits (bodyOf w)

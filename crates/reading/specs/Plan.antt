@@ -24,7 +24,8 @@ pub record Task : Type 0 where
   pub constant : ℕ
   pub accesses : List Access
 
--- what the records of a text say, each list in record order
+-- what the records of a text say, each list in record order. Records that differ can have the same words: the order of `start` records and
+-- a starting value of 0 leave no trace in these
 pub record Plan : Type 0 where
   pub passes : ℕ
   pub ranks : ℕ
@@ -100,7 +101,7 @@ wordAt P (suc (suc (suc (suc i)))) =
 unfoldable pub wordsOf : Plan → List ℕ
 wordsOf P = tabulate planWords (wordAt P)
 
--- what words say
+-- what words say; a mode above 2, which no plan in form has, is taken for `inout`
 abbrev pub modeOf : ℕ → Mode
 modeOf zero = Mode.In
 modeOf (suc zero) = Mode.Out

@@ -50,6 +50,7 @@ below limit Malformed = false
 abbrev pub isWord : Number → Bool
 isWord = lies 0 maxWord
 
+-- the number; 0 where it is none, which no test below lets through
 abbrev pub valueOf : Number → ℕ
 valueOf (Value n) = n
 valueOf TooLarge = 0
@@ -133,11 +134,12 @@ abbrev pub onStep : ℕ → (State → Reading) → Step → Reading
 onStep n k (next s) = k s
 onStep n k (refuse why) = refused why n
 
--- the lines from line n on: what follows the last line feed must be empty
+-- the lines from line n on: what follows the last line feed is the last of the pieces, and must be empty
 abbrev pub readFrom : ℕ → State → List (List ℕ) → Reading
 readFrom n s [] = refused 1 n
 readFrom n s (l ∷ []) = cond (isEmpty l) (atEnd n s) (refused 1 n)
 readFrom n s (l ∷ m ∷ ls) = onStep n (λ s′. readFrom (n + 1) s′ (m ∷ ls)) (step s (recordOf l))
 
+-- the pieces between the line feeds, the first being line 1
 unfoldable pub readOf : List ℕ → Reading
 readOf text = cond (ltb maxBytes (length text)) (refused 10 0) (readFrom 1 first (split 10 text))

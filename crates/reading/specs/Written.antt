@@ -16,6 +16,7 @@ abbrev pub decimal : ℕ → ℕ → List ℕ
 decimal zero n = (48 + n) ∷ []
 decimal (suc k) n = cond (ltb n 10) ((48 + n) ∷ []) (decimal k (n / 10) ++ ((48 + n % 10) ∷ []))
 
+-- a number that is none has no digits, and a record that is none an empty line
 unfoldable pub digits : Number → List ℕ
 digits (Value n) = decimal 19 n
 digits TooLarge = []

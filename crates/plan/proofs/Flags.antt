@@ -1,0 +1,244 @@
+-- What the flags hold after the reads of the tasks before t, and that at the end they are those of the transfers.
+use Prim.Native.Nat.{ℕ, zero, suc, _+_, _*_, _/_, _%_, _≤_, _<_}
+use mathlib.Core.Path.{_≡_, refl, sym, _∙_, ap, subst}
+use mathlib.Core.Bool.{Bool, true, false, cond, not, _&&_, _||_, or-true, or-false, and-false, and-eq-true-iff}
+use mathlib.Core.List.{List}
+use mathlib.Core.Option.{Option, none, some}
+use native.Mathlib.Omega.{arith}
+use borrow.Author.Tests.{ltb-true, leb-true, eqb-true, eqb-false, not-true, lt-ltb, le-leb, eq-eqb, ne-eqb}
+use lib.Dec.{eqb, ltb, leb}
+use lib.ListN.{length, getD, set, replicate, length-set, length-replicate, getD-replicate}
+use lib.Seq.{getD-set-same, getD-set-other, ext-getD}
+use Rattle.finite.specs.Below.{anyBelow}
+use Rattle.finite.specs.Lists.{mem}
+use Rattle.finite.proofs.Tests.{test-ext, and-parts, not-both}
+use Rattle.finite.proofs.Members.{mem-gather}
+use Rattle.finite.proofs.Lists.{length-tabulate, getD-tabulate}
+use Rattle.body.specs.Transfers.{equals, source, wanted, transferred}
+use Rattle.plan.specs.Layout.{ranksOf, tasksOf, rankOf, accessesOf, accessAt, regionAt, isRead, isWritten, readsOf, bodyOf}
+use Rattle.plan.specs.Wanted.{wantedAt, wantedFlags}
+use Rattle.plan.specs.Search.{rowOf, baseOf, notedTasks, claims, flagOf, claimed, marked, markedTasks, perFlag}
+use Rattle.plan.proofs.Facts.{Formed}
+use Rattle.plan.proofs.Rows.{row-at}
+use Rattle.plan.proofs.Last.{Writer, Names, headLast, source-named}
+
+-- the flags are those of which p holds
+pub record Flags (p : ℕ → Bool) (flags : List ℕ) : Type 0 where
+  pub size : length flags ≡ 16384
+  pub each : (k : ℕ) → k < 16384 → getD flags k 0 ≡ cond (p k) 1 0
+
+flags-ext : (p q : ℕ → Bool) (flags : List ℕ) → ((k : ℕ) → k < 16384 → p k ≡ q k) → Flags p flags → Flags q flags
+flags-ext p q flags h f = record { size = f .size; each = λ k l. f .each k l ∙ ap (λ (b : Bool). cond b 1 0) (h k l) }
+
+flags-claimed : (p : ℕ → Bool) (flags : List ℕ) (reads : Bool) (s q : ℕ) → Flags p flags → Flags (λ k. p k || (claims reads s q && eqb k (flagOf s q))) (claimed reads s q flags)
+unfolding claimed
+flags-claimed p flags reads s q f = turn (claims reads s q)
+  where
+    at : (k : ℕ) → k < 16384 → (b : Bool) → eqb k (flagOf s q) ≡ b → getD (set flags (flagOf s q) 1) k 0 ≡ cond (p k || b) 1 0
+    at k l true e =
+        let z : k ≡ flagOf s q = eqb-true k (flagOf s q) e in
+        subst (λ (m : ℕ). getD (set flags m 1) k 0 ≡ cond (p k || true) 1 0) z (getD-set-same flags k 1 0 (omega (arith, f .size)) ∙ rw (or-true (p k)))
+    at k l false e = getD-set-other flags (flagOf s q) k 1 0 (eqb-false k (flagOf s q) e) ∙ (f .each k l ∙ rw (or-false (p k)))
+
+    turn : (b : Bool) → Flags (λ k. p k || (b && eqb k (flagOf s q))) (cond b (set flags (flagOf s q) 1) flags)
+    turn true = record { size = length-set flags (flagOf s q) 1 ∙ f .size; each = λ k l. at k l (eqb k (flagOf s q)) refl }
+    turn false = flags-ext p (λ k. p k || false) flags (λ k l. sym (or-false (p k))) f
+
+-- perFlag
+
+pub perFlag-at : (p : ℕ → ℕ → ℕ → Bool) (k i a q : ℕ) → a < 8 → q < 16 → k ≡ 128 * i + 16 * a + q → perFlag p k ≡ p i a q
+perFlag-at p k i a q l m e =
+    let u : k / 128 ≡ i = omega arith in
+    let v : k / 16 % 8 ≡ a = omega arith in
+    let z : k % 16 ≡ q = omega arith in
+    rw (u, v, z)
+
+flags-per : (p r : ℕ → ℕ → ℕ → Bool) (flags : List ℕ) → ((i a q : ℕ) → p i a q ≡ r i a q) → Flags (perFlag p) flags → Flags (perFlag r) flags
+flags-per p r flags h = flags-ext (perFlag p) (perFlag r) flags (λ k _. h (k / 128) (k / 16 % 8) (k % 16))
+
+-- tests regrouped
+or-regroup : (o x r y z e : Bool) → (o && (x || (r && ((y || z) && e)))) ≡ ((o && (x || (r && (y && e)))) || (o && (r && (z && e))))
+or-regroup false x r y z e = refl
+or-regroup true true r y z e = refl
+or-regroup true false false y z e = refl
+or-regroup true false true true z true = refl
+or-regroup true false true true true false = refl
+or-regroup true false true true false false = refl
+or-regroup true false true false z e = refl
+
+and-regroup : (a b c d e f : Bool) → ((a && (b && (c && (d && e)))) && f) ≡ (a && (b && (c && (d && (e && f)))))
+and-regroup false b c d e f = refl
+and-regroup true false c d e f = refl
+and-regroup true true false d e f = refl
+and-regroup true true true false e f = refl
+and-regroup true true true true e f = refl
+
+module _ (w : List ℕ) (F : Formed w) where
+  -- access a of task i writes, and q is a rank other than the task's
+  abbrev foreign : ℕ → ℕ → ℕ → Bool
+  foreign i a q = ltb i (tasksOf w) && (ltb a (accessesOf w i) && (isWritten w i a && (ltb q (ranksOf w) && not (eqb q (rankOf w i)))))
+
+  record Foreign (i a q : ℕ) : Type 0 where
+    task : i < tasksOf w
+    below : a < accessesOf w i
+    writes : isWritten w i a ≡ true
+    rank : q < ranksOf w
+    other : q ≡ rankOf w i → ⊥
+
+  foreign-from : (i a q : ℕ) → foreign i a q ≡ true → Foreign i a q
+  foreign-from i a q h =
+      let t = and-eq-true-iff (ltb i (tasksOf w)) _ .0 h in
+      let b = and-eq-true-iff (ltb a (accessesOf w i)) _ .0 (t .1) in
+      let v = and-eq-true-iff (isWritten w i a) _ .0 (b .1) in
+      let r = and-eq-true-iff (ltb q (ranksOf w)) (not (eqb q (rankOf w i))) .0 (v .1) in
+      record {
+        task = ltb-true i (tasksOf w) (t .0);
+        below = ltb-true a (accessesOf w i) (b .0);
+        writes = v .0;
+        rank = ltb-true q (ranksOf w) (r .0);
+        other = eqb-false q (rankOf w i) (not-true (eqb q (rankOf w i)) (r .1));
+      }
+
+  foreign-of : (i a q : ℕ) → Foreign i a q → foreign i a q ≡ true
+  foreign-of i a q o = rw (lt-ltb i (tasksOf w) (o .task), lt-ltb a (accessesOf w i) (o .below), o .writes, lt-ltb q (ranksOf w) (o .rank), ne-eqb q (rankOf w i) (o .other))
+
+  -- task t on rank q reads region g with source i
+  abbrev reader : ℕ → ℕ → ℕ → ℕ → Bool
+  reader i g q t = eqb (rankOf w t) q && (mem g (readsOf w t) && equals (source (bodyOf w) t g) i)
+
+  -- the flags after the reads of the tasks below t
+  abbrev before : ℕ → ℕ → ℕ → ℕ → Bool
+  before t i a q = foreign i a q && anyBelow t (reader i (regionAt w i a) q)
+
+  -- and of the first n accesses of task t
+  abbrev within : ℕ → ℕ → ℕ → ℕ → ℕ → Bool
+  within t n i a q =
+      foreign i a q
+      && (anyBelow t (reader i (regionAt w i a) q)
+      || (eqb (rankOf w t) q && (anyBelow n (λ b. isRead w t b && eqb (regionAt w i a) (regionAt w t b)) && equals (source (bodyOf w) t (regionAt w i a)) i)))
+
+  -- what access n adds
+  abbrev added : ℕ → ℕ → ℕ → ℕ → ℕ → Bool
+  added t n i a q = foreign i a q && (eqb (rankOf w t) q && ((isRead w t n && eqb (regionAt w i a) (regionAt w t n)) && equals (source (bodyOf w) t (regionAt w i a)) i))
+
+  within-none : (t i a q : ℕ) → before t i a q ≡ within t 0 i a q
+  unfolding anyBelow
+  within-none t i a q = rw (and-false (eqb (rankOf w t) q), or-false (anyBelow t (reader i (regionAt w i a) q)))
+
+  within-more : (t n i a q : ℕ) → (within t n i a q || added t n i a q) ≡ within t (suc n) i a q
+  unfolding anyBelow
+  within-more t n i a q =
+      sym (or-regroup (foreign i a q) (anyBelow t (reader i (regionAt w i a) q)) (eqb (rankOf w t) q) (anyBelow n (λ b. isRead w t b && eqb (regionAt w i a) (regionAt w t b)))
+      (isRead w t n && eqb (regionAt w i a) (regionAt w t n)) (equals (source (bodyOf w) t (regionAt w i a)) i))
+
+  within-all : (t i a q : ℕ) → within t (accessesOf w t) i a q ≡ before (suc t) i a q
+  unfolding anyBelow
+  within-all t i a q = rw (mem-gather (accessesOf w t) (isRead w t) (regionAt w t) (regionAt w i a))
+
+  -- where s is not 0 it names a task
+  named-some : (g s : ℕ) (o : Option ℕ) → 16 ≤ s → Names w g o s → (i : ℕ) × (equals o i ≡ true) × Writer w g i s
+  named-some g s none l h = absurd (omega arith)
+  named-some g s (some i) l h = (i, eq-eqb i i refl, h)
+
+  named-equals : (g s i : ℕ) (o : Option ℕ) → equals o i ≡ true → Names w g o s → Writer w g i s
+  named-equals g s i none e h = absurd (not-both e refl)
+  named-equals g s i (some j) e h = subst (λ (m : ℕ). Writer w g m s) (eqb-true j i e) h
+
+  -- that read sets flag k, where s names its source
+  abbrev sets : ℕ → ℕ → ℕ → ℕ → Bool
+  sets t n s k = claims (isRead w t n) s (rankOf w t) && eqb k (flagOf s (rankOf w t))
+
+  module _ (t n s : ℕ) (lt : t < tasksOf w) (ln : n < accessesOf w t) (named : Names w (regionAt w t n) (source (bodyOf w) t (regionAt w t n)) s) where
+    added-sets : (k : ℕ) → perFlag (added t n) k ≡ true → sets t n s k ≡ true
+    added-sets k h = go (k / 128) (k / 16 % 8) (k % 16) (omega arith) h
+      where
+        at : (i a q : ℕ) → k ≡ 128 * i + 16 * a + q → Foreign i a q → rankOf w t ≡ q → isRead w t n ≡ true → regionAt w i a ≡ regionAt w t n
+            → Writer w (regionAt w t n) i s → sets t n s k ≡ true
+        at i a q e o p r z v =
+            let u = F .used i (o .task) in
+            let same : v .access ≡ a = u .apart (v .access) a (v .below) (o .below) (v .region ∙ sym z) in
+            let m : s ≡ baseOf w i + 16 * a = v .same ∙ ap (λ (x : ℕ). baseOf w i + 16 * x) same in
+            and-parts
+            (and-parts r (and-parts (le-leb 16 s (omega arith)) (ap not (ne-eqb (s % 16) (rankOf w t) (λ y. o .other (omega (arith, u .rank-most)))))))
+            (eq-eqb k (flagOf s (rankOf w t)) (omega (arith, u .rank-most)))
+
+        go : (i a q : ℕ) → k ≡ 128 * i + 16 * a + q → added t n i a q ≡ true → sets t n s k ≡ true
+        go i a q e h =
+            let o = and-eq-true-iff (foreign i a q) _ .0 h in
+            let p = and-eq-true-iff (eqb (rankOf w t) q) _ .0 (o .1) in
+            let x = and-eq-true-iff (isRead w t n && eqb (regionAt w i a) (regionAt w t n)) (equals (source (bodyOf w) t (regionAt w i a)) i) .0 (p .1) in
+            let r = and-eq-true-iff (isRead w t n) (eqb (regionAt w i a) (regionAt w t n)) .0 (x .0) in
+            let z = eqb-true (regionAt w i a) (regionAt w t n) (r .1) in
+            at i a q e (foreign-from i a q (o .0)) (eqb-true (rankOf w t) q (p .0)) (r .0) z
+            (named-equals (regionAt w t n) s i (source (bodyOf w) t (regionAt w t n)) (subst (λ (g : ℕ). equals (source (bodyOf w) t g) i ≡ true) z (x .1)) named)
+
+    sets-added : (k : ℕ) → sets t n s k ≡ true → perFlag (added t n) k ≡ true
+    sets-added k h =
+        let c = and-eq-true-iff (claims (isRead w t n) s (rankOf w t)) (eqb k (flagOf s (rankOf w t))) .0 h in
+        let r = and-eq-true-iff (isRead w t n) _ .0 (c .0) in
+        let l = and-eq-true-iff (leb 16 s) (not (eqb (s % 16) (rankOf w t))) .0 (r .1) in
+        let low : 16 ≤ s = leb-true 16 s (l .0) in
+        go (r .0) low (eqb-false (s % 16) (rankOf w t) (not-true (eqb (s % 16) (rankOf w t)) (l .1))) (eqb-true k (flagOf s (rankOf w t)) (c .1))
+        (named-some (regionAt w t n) s (source (bodyOf w) t (regionAt w t n)) low named)
+      where
+        go : isRead w t n ≡ true → 16 ≤ s → (s % 16 ≡ rankOf w t → ⊥) → k ≡ flagOf s (rankOf w t)
+            → (i : ℕ) × (equals (source (bodyOf w) t (regionAt w t n)) i ≡ true) × Writer w (regionAt w t n) i s → perFlag (added t n) k ≡ true
+        go r low apart e (i, f, v) =
+            let u = F .used i (v .task) in
+            let m = F .used t lt in
+            let y = v .same in
+            let o : Foreign i (v .access) (rankOf w t) =
+            record { task = v .task; below = v .below; writes = v .writes; rank = m .rank-below; other = λ z. apart (omega (arith, u .rank-most)) } in
+            perFlag-at (added t n) k i (v .access) (rankOf w t) (omega (arith, v .below, u .accesses-most)) (m .rank-most) (omega (arith, u .rank-most))
+            ∙ and-parts (foreign-of i (v .access) (rankOf w t) o)
+            (and-parts (eq-eqb (rankOf w t) (rankOf w t) refl)
+            (and-parts (and-parts r (eq-eqb (regionAt w i (v .access)) (regionAt w t n) (v .region)))
+            (subst (λ (g : ℕ). equals (source (bodyOf w) t g) i ≡ true) (sym (v .region)) f)))
+
+    sets-is : (k : ℕ) → sets t n s k ≡ perFlag (added t n) k
+    sets-is k = test-ext (sets t n s k) (perFlag (added t n) k) (sets-added k) (added-sets k)
+
+  -- marked
+
+  flags-marked : (t : ℕ) (last flags : List ℕ) → t < tasksOf w → ((g : ℕ) → g < 128 → Names w g (source (bodyOf w) t g) (getD last g 0))
+      → Flags (perFlag (before t)) flags
+      → (n : ℕ) → n ≤ accessesOf w t → Flags (perFlag (within t n)) (marked (rowOf w t) last (rankOf w t) n flags)
+  unfolding marked
+  flags-marked t last flags l named f zero m = flags-per (before t) (within t 0) flags (within-none t) f
+  flags-marked t last flags l named f (suc n) m =
+      let u = F .used t l in
+      let word : getD (rowOf w t) n 0 ≡ accessAt w t n = row-at w t n (omega (arith, u .accesses-most)) in
+      let s : ℕ = getD last (regionAt w t n) 0 in
+      let here : Names w (regionAt w t n) (source (bodyOf w) t (regionAt w t n)) s = named (regionAt w t n) (omega arith) in
+      subst (λ (x : ℕ). Flags (perFlag (within t (suc n))) (claimed (not (eqb (x / 128) 1)) (getD last (x % 128) 0) (rankOf w t) (marked (rowOf w t) last (rankOf w t) n flags))) (sym word)
+      (flags-ext (λ k. perFlag (within t n) k || sets t n s k) (perFlag (within t (suc n)))
+      (claimed (isRead w t n) s (rankOf w t) (marked (rowOf w t) last (rankOf w t) n flags))
+      (λ k v. ap (λ (b : Bool). perFlag (within t n) k || b) (sets-is t n s l m here k) ∙ within-more t n (k / 128) (k / 16 % 8) (k % 16))
+      (flags-claimed (perFlag (within t n)) (marked (rowOf w t) last (rankOf w t) n flags) (isRead w t n) s (rankOf w t) (flags-marked t last flags l named f n (omega arith))))
+
+  -- markedTasks
+
+  flags-tasks : (t : ℕ) → t ≤ tasksOf w → Flags (perFlag (before t)) (markedTasks w (headLast w) t (replicate 16384 0))
+  unfolding markedTasks anyBelow
+  flags-tasks zero l =
+      record {
+        size = length-replicate {A = ℕ} 16384 0;
+        each = λ k u. getD-replicate {A = ℕ} 16384 k 0 0 u ∙ rw (and-false (foreign (k / 128) (k / 16 % 8) (k % 16)));
+      }
+  flags-tasks (suc t) l =
+      flags-per (within t (accessesOf w t)) (before (suc t)) (markedTasks w (headLast w) (suc t) (replicate 16384 0)) (within-all t)
+      (flags-marked t (notedTasks w t (headLast w)) (markedTasks w (headLast w) t (replicate 16384 0)) l (λ g u. source-named w F t g (omega arith) u) (flags-tasks t (omega arith)) (accessesOf w t) (omega arith))
+
+  -- at the end
+
+  before-all : (i a q : ℕ) → before (tasksOf w) i a q ≡ wantedAt w i a q
+  unfolding wantedAt transferred wanted
+  before-all i a q =
+      and-regroup (ltb i (tasksOf w)) (ltb a (accessesOf w i)) (isWritten w i a) (ltb q (ranksOf w)) (not (eqb q (rankOf w i))) (anyBelow (tasksOf w) (reader i (regionAt w i a) q))
+
+  pub flags-found : markedTasks w (headLast w) (tasksOf w) (replicate 16384 0) ≡ wantedFlags w
+  flags-found =
+      let f = flags-per (before (tasksOf w)) (wantedAt w) (markedTasks w (headLast w) (tasksOf w) (replicate 16384 0)) before-all (flags-tasks (tasksOf w) (omega arith)) in
+      ext-getD 0 (markedTasks w (headLast w) (tasksOf w) (replicate 16384 0)) (wantedFlags w)
+      (f .size ∙ sym (length-tabulate (λ k. cond (perFlag (wantedAt w) k) 1 0) 16384))
+      (λ k u. f .each k (omega (arith, f .size)) ∙ sym (getD-tabulate (λ k. cond (perFlag (wantedAt w) k) 1 0) 16384 k 0 (omega (arith, f .size))))

@@ -1,0 +1,69 @@
+use Prim.Native.Nat.{_≤_, _-_}
+use mathlib.Core.Path.{_≡_}
+use borrow.Author.Needs.{needs}
+use lib.ListN.{length}
+use Rattle.plan.specs.Search.{noted}
+use Rattle.plan.proofs.Last.{noted-none, noted-more, noted-done}
+use Rattle.plan.proofs.transfers.note_row.Statement.{statement}
+use Rattle.plan.proofs.transfers.note_row.Tie as tie
+
+abbrev Inv-loop : tie.InvT-loop
+Inv-loop row count base last₀ a₀ last a = (a ≤ count) × (length last ≡ 128) × (last ≡ noted row base a last₀)
+
+abbrev μ-loop : tie.MeasureT-loop
+μ-loop row count base last₀ a₀ last a = count - a
+
+loop-holds : tie.Need-loop-holds Inv-loop μ-loop
+loop-holds c = search (needs, noted-none)
+
+mul-word : tie.Need-mul-word Inv-loop μ-loop
+mul-word c = search needs
+
+element-copy-out-word : tie.Need-element-copy-out-word Inv-loop μ-loop
+element-copy-out-word c = search needs
+
+as-index-requires : tie.Need-as-index-requires Inv-loop μ-loop
+as-index-requires c κs = search needs
+
+mul-put-if : tie.Need-mul-put-if Inv-loop μ-loop
+mul-put-if c = search needs
+
+add-put-if : tie.Need-add-put-if Inv-loop μ-loop
+add-put-if c = search needs
+
+put-if-requires : tie.Need-put-if-requires Inv-loop μ-loop
+put-if-requires c κs = search needs
+
+add-a : tie.Need-add-a Inv-loop μ-loop
+add-a c = search needs
+
+loop-less : tie.Need-loop-less Inv-loop μ-loop
+loop-less c = search needs
+
+loop-again : tie.Need-loop-again Inv-loop μ-loop
+loop-again c = search (needs, noted-more)
+
+same-length : tie.Need-same-length Inv-loop μ-loop
+same-length c = search needs
+
+returns : tie.Need-returns Inv-loop μ-loop
+returns c = search (needs, noted-done)
+
+pub note-row-spec : {M : Type 1} → statement M
+note-row-spec =
+    tie.close
+    (tie.spec
+    Inv-loop
+    μ-loop
+    loop-holds
+    mul-word
+    element-copy-out-word
+    as-index-requires
+    mul-put-if
+    add-put-if
+    put-if-requires
+    add-a
+    loop-less
+    loop-again
+    same-length
+    returns)

@@ -1,0 +1,91 @@
+use Prim.Native.Nat.{_+_, _≤_, _-_}
+use mathlib.Core.Path.{_≡_}
+use native.Mathlib.Omega.{arith}
+use borrow.Author.Needs.{needs}
+use lib.ListN.{length}
+use Rattle.plan.specs.Search.{noted, marked, ones}
+use Rattle.plan.proofs.Last.{noted-none, noted-more, noted-done}
+use Rattle.plan.proofs.Marks.{ones-most, source-below, marked-none, marked-more, marked-done}
+use Rattle.plan.proofs.transfers.visit_row.Statement.{statement}
+use Rattle.plan.proofs.transfers.visit_row.Tie as tie
+
+abbrev Inv-loop : tie.InvT-loop
+Inv-loop row count rank base last₀ wanted₀ total₀ a₀ last wanted total a = (a ≤ count) × (length last ≡ 128) × (length wanted ≡ 16384) × (last ≡ noted row base a last₀) × (wanted ≡ marked row last₀ rank a wanted₀) × (ones wanted ≡ ones wanted₀ + total)
+
+abbrev μ-loop : tie.MeasureT-loop
+μ-loop row count rank base last₀ wanted₀ total₀ a₀ last wanted total a = count - a
+
+loop-holds : tie.Need-loop-holds Inv-loop μ-loop
+loop-holds c = search (needs, noted-none, marked-none)
+
+mul-word : tie.Need-mul-word Inv-loop μ-loop
+mul-word c = search needs
+
+element-copy-out-word : tie.Need-element-copy-out-word Inv-loop μ-loop
+element-copy-out-word c = search needs
+
+as-index-requires : tie.Need-as-index-requires Inv-loop μ-loop
+as-index-requires c κs = search needs
+
+mul-source : tie.Need-mul-source Inv-loop μ-loop
+mul-source c = search needs
+
+slice-read-source : tie.Need-slice-read-source Inv-loop μ-loop
+slice-read-source c = search needs
+
+claim-requires : tie.Need-claim-requires Inv-loop μ-loop
+claim-requires c κs = search (needs, source-below)
+
+add-total : tie.Need-add-total Inv-loop μ-loop
+add-total c = omega (arith, ones-most (c .before .before .claim .last .1 .1 .1 .0))
+
+mul-put-if : tie.Need-mul-put-if Inv-loop μ-loop
+mul-put-if c = search needs
+
+add-put-if : tie.Need-add-put-if Inv-loop μ-loop
+add-put-if c = search needs
+
+put-if-requires : tie.Need-put-if-requires Inv-loop μ-loop
+put-if-requires c κs = search needs
+
+add-a : tie.Need-add-a Inv-loop μ-loop
+add-a c = search needs
+
+loop-less : tie.Need-loop-less Inv-loop μ-loop
+loop-less c = search needs
+
+loop-again : tie.Need-loop-again Inv-loop μ-loop
+loop-again c = (search needs, search needs, search needs, search (needs, noted-more), search (needs, marked-more), search needs)
+
+same-length : tie.Need-same-length Inv-loop μ-loop
+same-length c = search needs
+
+same-length-2 : tie.Need-same-length-2 Inv-loop μ-loop
+same-length-2 c = search needs
+
+returns : tie.Need-returns Inv-loop μ-loop
+returns c = search (needs, noted-done, marked-done)
+
+pub visit-row-spec : {M : Type 1} → statement M
+visit-row-spec =
+    tie.close
+    (tie.spec
+    Inv-loop
+    μ-loop
+    loop-holds
+    mul-word
+    element-copy-out-word
+    as-index-requires
+    mul-source
+    slice-read-source
+    claim-requires
+    add-total
+    mul-put-if
+    add-put-if
+    put-if-requires
+    add-a
+    loop-less
+    loop-again
+    same-length
+    same-length-2
+    returns)

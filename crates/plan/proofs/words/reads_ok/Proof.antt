@@ -1,0 +1,27 @@
+use native.Mathlib.Omega.{arith}
+use mathlib.Core.Path.{_∙_, ap₂}
+use Rattle.kernels.specs.Kernels.{suits}
+use Rattle.plan.proofs.Rest.{suits-low}
+use borrow.Author.Needs.{needs}
+use Rattle.plan.proofs.words.reads_ok.Statement.{statement}
+use Rattle.plan.proofs.words.reads_ok.Tie as tie
+
+kernel-of-requires : tie.Need-kernel-of-requires
+kernel-of-requires c κs = search needs
+
+read-count-requires : tie.Need-read-count-requires
+read-count-requires c κs = search needs
+
+suits-kernel-requires : tie.Need-suits-kernel-requires
+suits-kernel-requires c κs = search needs
+
+returns : tie.Need-returns
+returns c = suits-low _ _ (omega (arith, c .before .kernel-of .ensures))
+
+returns-2 : tie.Need-returns-2
+returns-2 c = c .suits-kernel .ensures ∙ ap₂ suits (c .before .before .before .kernel-of .ensures) (c .before .read-count .ensures)
+
+pub reads-ok-spec : {M : Type 1} → statement M
+reads-ok-spec =
+    tie.close
+    (tie.spec kernel-of-requires read-count-requires suits-kernel-requires returns returns-2)

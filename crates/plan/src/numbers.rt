@@ -1,0 +1,18 @@
+// Words and tests as other numbers.
+ghost use Prim.Native.Nat.{_≤_};
+ghost use mathlib.Core.Path.{_≡_};
+ghost use mathlib.Core.Bool.{cond};
+
+// A word as an index.
+pub(crate) fn as_index(x: u64) -> usize
+    ensures { λ r. ⌜ r ≡ x ⌝ }
+{
+    x as usize
+}
+
+// 1 where it holds, else 0.
+pub(crate) fn one_if(holds: bool) -> u64
+    ensures { λ r. ⌜ (r ≡ cond holds 1 0) × (r ≤ 1) ⌝ }
+{
+    if holds { 1 } else { 0 }
+}

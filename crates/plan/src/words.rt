@@ -1,0 +1,267 @@
+// The test of a plan's words, but for the number of transfers: one pass over the words that the plan uses, and one over those
+// that have to be 0. A plan that is lent can hold anything, so a number is tested before it is used as an index.
+ghost use mathlib.Core.Path.{_≡_};
+ghost use mathlib.Core.Bool.{false, cond};
+ghost use Prim.Native.Nat.{suc, _≤_, _<_};
+ghost use lib.ListN.{length};
+ghost use Rattle.finite.specs.Below.{countBelow};
+ghost use Rattle.plan.specs.Layout.{regionsOf, tasksOf, rankOf, kernelOf, accessesOf, accessAt, isRead};
+ghost use Rattle.plan.specs.Form.{countsOk, restOk};
+ghost use Rattle.plan.specs.Changes.{changeCount};
+ghost use Rattle.plan.specs.Scan.{kept, freshAllOk, changesOf, headOk, readsOk, scanOk, tasksScanOk, behindRegionsOk, behindTasksOk, Keeps, Open, Ready, Scanned, Answer};
+use crate::numbers::as_index;
+use crate::numbers::one_if;
+
+// What the test finds: whether the words are in form, and how often an access changes the rank of its region.
+pub(crate) struct Checked {
+    pub(crate) ok: bool,
+    pub(crate) changes: u64,
+}
+
+fn refused() -> Checked
+    ensures { λ r. ⌜ r .ok ≡ false ⌝ }
+{
+    Checked {
+        ok: false,
+        changes: 0,
+    }
+}
+
+// Whether passes, ranks, regions and tasks are within their limits.
+fn counts_ok(plan: &[u64]) -> bool
+    requires { ⌜ 1668 ≤ length (now plan) ⌝ }
+    ensures { λ r. ⌜ r ≡ countsOk (now (plan .entry)) ⌝ }
+{
+    let passes = plan[0];
+    let ranks = plan[1];
+    let regions = plan[2];
+    let tasks = plan[3];
+    (passes <= 1000000)
+        & ((1 <= ranks)
+            & ((ranks <= 16)
+                & ((1 <= regions) & ((regions <= 128) & ((1 <= tasks) & (tasks <= 128))))))
+}
+
+// The rank of task i.
+fn rank_of(plan: &[u64], i: usize) -> u64
+    requires { ⌜ (1668 ≤ length (now plan)) × (i < 128) ⌝ }
+    ensures { λ r. ⌜ r ≡ rankOf (now (plan .entry)) i ⌝ }
+{
+    plan[132 + 12 * i]
+}
+
+// The kernel of task i.
+fn kernel_of(plan: &[u64], i: usize) -> u64
+    requires { ⌜ (1668 ≤ length (now plan)) × (i < 128) ⌝ }
+    ensures { λ r. ⌜ r ≡ kernelOf (now (plan .entry)) i ⌝ }
+{
+    plan[133 + 12 * i]
+}
+
+// How many accesses task i has.
+fn accesses_of(plan: &[u64], i: usize) -> usize
+    requires { ⌜ (1668 ≤ length (now plan)) × (i < 128) ⌝ }
+    ensures { λ r. ⌜ r ≡ accessesOf (now (plan .entry)) i ⌝ }
+{
+    as_index(plan[135 + 12 * i])
+}
+
+// The word of access a of task i.
+fn access_at(plan: &[u64], i: usize, a: usize) -> u64
+    requires { ⌜ (1668 ≤ length (now plan)) × (i < 128) × (a < 8) ⌝ }
+    ensures { λ r. ⌜ r ≡ accessAt (now (plan .entry)) i a ⌝ }
+{
+    plan[136 + 12 * i + a]
+}
+
+// Whether the rank, the kernel and the number of accesses of task i are within their limits.
+fn head_ok(plan: &[u64], i: usize) -> bool
+    requires { ⌜ (1668 ≤ length (now plan)) × (i < 128) ⌝ }
+    ensures { λ r. ⌜ r ≡ headOk (now (plan .entry)) i ⌝ }
+{
+    let ranks = plan[1];
+    let rank = plan[132 + 12 * i];
+    let kernel = plan[133 + 12 * i];
+    let accesses = plan[135 + 12 * i];
+    (rank < ranks) & ((kernel <= 4) & (accesses <= 8))
+}
+
+// Whether access a of task i reads.
+fn is_read(plan: &[u64], i: usize, a: usize) -> bool
+    requires { ⌜ (1668 ≤ length (now plan)) × (i < 128) × (a < 8) ⌝ }
+    ensures { λ r. ⌜ r ≡ isRead (now (plan .entry)) i a ⌝ }
+{
+    !(plan[136 + 12 * i + a] / 128 == 1)
+}
+
+// How many accesses of task i read.
+fn read_count(plan: &[u64], i: usize) -> u64
+    requires { ⌜ (1668 ≤ length (now plan)) × (i < 128) × (accessesOf (now plan) i ≤ 8) ⌝ }
+    ensures { λ r. ⌜ r ≡ countBelow (accessesOf (now (plan .entry)) i) (isRead (now (plan .entry)) i) ⌝ }
+{
+    let accesses = accesses_of(plan, i);
+    let mut count: u64 = 0;
+    let mut a: usize = 0;
+    while a < accesses {
+        count += one_if(is_read(plan, i, a));
+        a += 1;
+    }
+    count
+}
+
+// Whether the kernel of task i permits its number of reads, which is counted only where that matters.
+fn reads_ok(plan: &[u64], i: usize) -> bool
+    requires { ⌜ (1668 ≤ length (now plan)) × (i < 128) × (accessesOf (now plan) i ≤ 8) ⌝ }
+    ensures { λ r. ⌜ r ≡ readsOk (now (plan .entry)) i ⌝ }
+{
+    let kernel = kernel_of(plan, i);
+    if kernel <= 1 {
+        true
+    } else {
+        kernels::suits_kernel(kernel, read_count(plan, i))
+    }
+}
+
+// Whether the words behind the accesses of task i are 0.
+fn rest_ok(plan: &[u64], i: usize) -> bool
+    requires { ⌜ (1668 ≤ length (now plan)) × (i < 128) × (accessesOf (now plan) i ≤ 8) ⌝ }
+    ensures { λ r. ⌜ r ≡ restOk (now (plan .entry)) i ⌝ }
+{
+    let mut a = accesses_of(plan, i);
+    while a < 8 {
+        if access_at(plan, i, a) != 0 {
+            return false;
+        }
+        a += 1;
+    }
+    true
+}
+
+// Whether each access of task i has a mode and names a region that the task has not named before; `last` has a word for each
+// region, which tells the rank and the number of the last task that named it, and is brought up to date. Counts the accesses
+// whose region was last named on another rank, or not at all.
+fn name_all(plan: &[u64], last: &mut [u64], i: usize) -> Checked
+    requires { ⌜ Ready (now plan) i (now last) ⌝ }
+    ensures { λ r. ⌜ Scanned (freshAllOk (now (plan .entry)) i) (changesOf (now (plan .entry)) i) (kept (now (plan .entry)) (suc i)) (r .ok) (r .changes) (now (last .exit)) ⌝ }
+{
+    let accesses = accesses_of(plan, i);
+    let base = 256 * (rank_of(plan, i) + 1);
+    let own = i as u64;
+    let mut changes: u64 = 0;
+    let mut a: usize = 0;
+    while a < accesses {
+        let word = access_at(plan, i, a);
+        if word >= 384 {
+            return refused();
+        }
+        let g = as_index(word % 128);
+        let since = std::num::wrapping_sub_u64(last[g], base);
+        if since >= own {
+            if since == own {
+                return refused();
+            }
+            changes += 1;
+        }
+        last[g] = base + own;
+        a += 1;
+    }
+    Checked {
+        ok: true,
+        changes: changes,
+    }
+}
+
+// Whether task i, which the plan has, is in form, but for its regions being the plan's; `last` is brought up to date, and the
+// changes are counted.
+fn scan_task(plan: &[u64], last: &mut [u64], i: usize) -> Checked
+    requires { ⌜ Open (now plan) i (now last) × (i < tasksOf (now plan)) ⌝ }
+    ensures { λ r. ⌜ Scanned (scanOk (now (plan .entry)) i) (changesOf (now (plan .entry)) i) (kept (now (plan .entry)) (suc i)) (r .ok) (r .changes) (now (last .exit)) ⌝ }
+{
+    if !head_ok(plan, i) {
+        return refused();
+    }
+    let named = name_all(plan, last, i);
+    if !named.ok {
+        return refused();
+    }
+    if !rest_ok(plan, i) {
+        return refused();
+    }
+    Checked {
+        ok: reads_ok(plan, i),
+        changes: named.changes,
+    }
+}
+
+// The same of every task that the plan has.
+fn scan_tasks(plan: &[u64], last: &mut [u64]) -> Checked
+    requires { ⌜ Open (now plan) 0 (now last) ⌝ }
+    ensures { λ r. ⌜ Scanned (tasksScanOk (now (plan .entry))) (changeCount (now (plan .entry))) (kept (now (plan .entry)) (tasksOf (now (plan .entry)))) (r .ok) (r .changes) (now (last .exit)) ⌝ }
+{
+    let tasks = as_index(plan[3]);
+    let mut changes: u64 = 0;
+    let mut i: usize = 0;
+    while i < tasks {
+        let task = scan_task(plan, last, i);
+        if !task.ok {
+            return refused();
+        }
+        changes += task.changes;
+        i += 1;
+    }
+    Checked {
+        ok: true,
+        changes: changes,
+    }
+}
+
+// Whether no region from the plan's number of regions on is named or has a starting value.
+fn behind_regions(plan: &[u64], last: &[u64]) -> bool
+    requires { ⌜ (1668 ≤ length (now plan)) × (regionsOf (now plan) ≤ 128) × Keeps (kept (now plan) (tasksOf (now plan))) (now last) ⌝ }
+    ensures { λ r. ⌜ r ≡ behindRegionsOk (now (plan .entry)) ⌝ }
+{
+    let mut bits: u64 = 0;
+    let mut g = as_index(plan[2]);
+    while g < 128 {
+        bits = bits | (last[g] | plan[4 + g]);
+        g += 1;
+    }
+    bits == 0
+}
+
+// Whether the words behind the tasks are 0, two at a time.
+fn behind_tasks(plan: &[u64]) -> bool
+    requires { ⌜ (1668 ≤ length (now plan)) × (tasksOf (now plan) ≤ 128) ⌝ }
+    ensures { λ r. ⌜ r ≡ behindTasksOk (now (plan .entry)) ⌝ }
+{
+    let tasks = as_index(plan[3]);
+    let first = 132 + 12 * tasks;
+    let half = 6 * (128 - tasks);
+    let mut bits: u64 = 0;
+    let mut k: usize = 0;
+    while k < half {
+        bits = bits | (plan[first + k] | plan[first + half + k]);
+        k += 1;
+    }
+    bits == 0
+}
+
+// Whether the words are in form, but for the number of transfers; and where they are, how often an access's region was last named
+// on another rank, or not at all.
+pub(crate) fn words_ok(plan: &[u64]) -> Checked
+    requires { ⌜ 1668 ≤ length (now plan) ⌝ }
+    ensures { λ r. ⌜ Answer (now (plan .entry)) (r .ok) (r .changes) ⌝ }
+{
+    if !counts_ok(plan) {
+        return refused();
+    }
+    let mut last = [0u64; 128];
+    let scanned = scan_tasks(plan, &mut last);
+    if !scanned.ok {
+        return refused();
+    }
+    Checked {
+        ok: behind_regions(plan, &last) & behind_tasks(plan),
+        changes: scanned.changes,
+    }
+}

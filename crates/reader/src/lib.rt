@@ -1,0 +1,388 @@
+// Reading a lent text into a lent plan: line after line, each record's tests in the paper's order, its words stored where it passes
+// them all. The words of a plan: 0 passes, 1 ranks, 2 regions, 3 tasks, 4 + g the starting value of region g; from 132 + 12 t on those
+// of task t, which are rank, kernel, constant, number of accesses and the accesses. What a line says is no matter of this crate.
+ghost use mathlib.Core.Path.{_≡_};
+ghost use mathlib.Core.Bool.{true};
+ghost use mathlib.Core.List.{List};
+ghost use Prim.Native.Nat.{ℕ, _+_, _*_, _-_, _≤_, _<_};
+ghost use lib.Dec.{eqb};
+ghost use lib.ListN.{length, replicate};
+ghost use Rattle.text.specs.declared.Record.{Record};
+ghost use Rattle.finite.specs.Below.{anyBelow, countBelow};
+ghost use Rattle.plan.specs.Layout.{at, isRead, planWords, regionAt, tasksOf};
+ghost use Rattle.plan.specs.Form.{inForm, wordsOk};
+ghost use Rattle.plan.specs.Limits.{maxBytes, maxRegions};
+ghost use Rattle.reading.specs.Plan.{modeWord};
+ghost use Rattle.reading.specs.Reading.{below, lies, readOf, refused, valueOf};
+ghost use Rattle.reader.specs.Answer.{Reads};
+ghost use Rattle.reader.specs.Machine.{endOf, move, openCount};
+ghost use Rattle.reader.specs.Steps.{Bounds, Tells, Walked, moveOf};
+use text::Mode;
+use text::Number;
+use text::Record;
+use text::RecordAt;
+
+// What reading answers: refusal 0 and line 0 where the text is accepted.
+#[repr(C)]
+pub struct Answer {
+    pub refusal: u64,
+    pub line: u64,
+}
+
+// What a record leads to: on with a phase (0 no line read, 1 no task open, 2 a task open), or a refusal.
+enum Step {
+    Go(u64),
+    Stop(u64),
+}
+
+fn is_below(limit: u64, x: Number) -> bool
+    ensures { λ r. ⌜ r ≡ below limit x ⌝ }
+{
+    match x {
+        Number::Value(v) => v < limit,
+        Number::TooLarge => false,
+        Number::Malformed => false,
+    }
+}
+
+fn is_within(lowest: u64, highest: u64, x: Number) -> bool
+    ensures { λ r. ⌜ r ≡ lies lowest highest x ⌝ }
+{
+    match x {
+        Number::Value(v) => (lowest <= v) & (v <= highest),
+        Number::TooLarge => false,
+        Number::Malformed => false,
+    }
+}
+
+fn value_of(x: Number) -> u64
+    ensures { λ r. ⌜ r ≡ valueOf x ⌝ }
+{
+    match x {
+        Number::Value(v) => v,
+        Number::TooLarge => 0,
+        Number::Malformed => 0,
+    }
+}
+
+fn mode_word(mode: Mode) -> u64
+    ensures { λ r. ⌜ (r ≡ modeWord mode) × (r ≤ 2) ⌝ }
+{
+    match mode {
+        Mode::In => 0,
+        Mode::Out => 1,
+        Mode::Inout => 2,
+    }
+}
+
+// Whether one of the n accesses of task t names the region.
+fn is_named(words: &[u64], t: usize, n: usize, region: u64) -> bool
+    requires { ⌜ (length (now words) ≡ 1668) × (t < 128) × (n ≤ 8) ⌝ }
+    ensures { λ r. ⌜ r ≡ anyBelow n (λ a. eqb region (regionAt (now (words .entry)) t a)) ⌝ }
+{
+    let mut found = false;
+    let mut a: usize = 0;
+    while a < n {
+        found = found | (region == words[136 + 12 * t + a] % 128);
+        a += 1;
+    }
+    found
+}
+
+// How many of the n accesses of task t read their region.
+fn count_reads(words: &[u64], t: usize, n: usize) -> u64
+    requires { ⌜ (length (now words) ≡ 1668) × (t < 128) × (n ≤ 8) ⌝ }
+    ensures { λ r. ⌜ r ≡ countBelow n (isRead (now (words .entry)) t) ⌝ }
+{
+    let mut reads: u64 = 0;
+    let mut a: usize = 0;
+    while a < n {
+        reads += (words[136 + 12 * t + a] / 128 != 1) as u64;
+        a += 1;
+    }
+    reads
+}
+
+// The first line.
+fn take_loop(words: &mut [u64], passes: Number, ranks: Number, regions: Number) -> Step
+    requires { ⌜ length (now words) ≡ 1668 ⌝ }
+    ensures { λ r. ⌜ ((f : List ℕ) → moveOf r f (now (words .exit)) ≡ move 0 f (now (words .entry)) (Record.Loop passes ranks regions)) ⌝ }
+{
+    if !is_within(0, 1000000, passes) {
+        return Step::Stop(3);
+    }
+    if !is_within(1, 16, ranks) {
+        return Step::Stop(3);
+    }
+    if !is_within(1, 128, regions) {
+        return Step::Stop(3);
+    }
+    words[0] = value_of(passes);
+    words[1] = value_of(ranks);
+    words[2] = value_of(regions);
+    Step::Go(1)
+}
+
+// A starting value. A flag is 1 where a `start` named its region.
+fn take_start(named: &mut [u64], words: &mut [u64], region: Number, value: Number) -> Step
+    requires { ⌜ (length (now named) ≡ 128) × (length (now words) ≡ 1668) × (at (now words) 2 ≤ 128) ⌝ }
+    ensures { λ r. ⌜ moveOf r (now (named .exit)) (now (words .exit)) ≡ move 1 (now (named .entry)) (now (words .entry)) (Record.Start region value) ⌝ }
+{
+    let tasks = words[3];
+    if tasks != 0 {
+        return Step::Stop(2);
+    }
+    let regions = words[2];
+    if !is_below(regions, region) {
+        return Step::Stop(3);
+    }
+    if !is_within(0, 18446744073709551615, value) {
+        return Step::Stop(3);
+    }
+    let g = value_of(region) as usize;
+    let flag = named[g];
+    if flag == 1 {
+        return Step::Stop(6);
+    }
+    named[g] = 1;
+    words[4 + g] = value_of(value);
+    Step::Go(1)
+}
+
+// A task opens: its words are those behind the tasks that the plan has.
+fn take_begin(words: &mut [u64], rank: Number, kernel: Number, constant: Number) -> Step
+    requires { ⌜ length (now words) ≡ 1668 ⌝ }
+    ensures { λ r. ⌜ ((f : List ℕ) → moveOf r f (now (words .exit)) ≡ move 1 f (now (words .entry)) (Record.Begin rank kernel constant)) ⌝ }
+{
+    let ranks = words[1];
+    if !is_below(ranks, rank) {
+        return Step::Stop(3);
+    }
+    if !is_within(0, 4, kernel) {
+        return Step::Stop(3);
+    }
+    if !is_within(0, 18446744073709551615, constant) {
+        return Step::Stop(3);
+    }
+    let tasks = words[3];
+    if tasks >= 128 {
+        return Step::Stop(10);
+    }
+    let t = tasks as usize;
+    words[3] = tasks + 1;
+    words[132 + 12 * t] = value_of(rank);
+    words[133 + 12 * t] = value_of(kernel);
+    words[134 + 12 * t] = value_of(constant);
+    Step::Go(2)
+}
+
+// An access of the task that is open.
+fn take_access(words: &mut [u64], mode: Mode, region: Number) -> Step
+    requires { ⌜ (length (now words) ≡ 1668) × (at (now words) 2 ≤ 128) × (1 ≤ at (now words) 3) × (at (now words) 3 ≤ 128) × (openCount (now words) ≤ 8) ⌝ }
+    ensures { λ r. ⌜ ((f : List ℕ) → moveOf r f (now (words .exit)) ≡ move 2 f (now (words .entry)) (Record.Access mode region)) ⌝ }
+{
+    let regions = words[2];
+    if !is_below(regions, region) {
+        return Step::Stop(3);
+    }
+    let t = words[3] as usize - 1;
+    let n = words[135 + 12 * t] as usize;
+    if n >= 8 {
+        return Step::Stop(10);
+    }
+    let g = value_of(region);
+    if is_named(words, t, n, g) {
+        return Step::Stop(6);
+    }
+    words[136 + 12 * t + n] = g + 128 * mode_word(mode);
+    words[135 + 12 * t] = n as u64 + 1;
+    Step::Go(2)
+}
+
+// The task that is open ends: its words stand already.
+fn take_end(words: &[u64]) -> Step
+    requires { ⌜ (length (now words) ≡ 1668) × (1 ≤ at (now words) 3) × (at (now words) 3 ≤ 128) × (openCount (now words) ≤ 8) ⌝ }
+    ensures { λ r. ⌜ ((f : List ℕ) → moveOf r f (now (words .entry)) ≡ move 2 f (now (words .entry)) Record.End) ⌝ }
+{
+    let t = words[3] as usize - 1;
+    let n = words[135 + 12 * t] as usize;
+    let reads = count_reads(words, t, n);
+    if kernels::suits_kernel(words[133 + 12 * t], reads) {
+        return Step::Go(1);
+    }
+    Step::Stop(9)
+}
+
+// What a record does in a phase.
+fn take_record(phase: u64, record: Record, named: &mut [u64], words: &mut [u64]) -> Step
+    requires { ⌜ Bounds phase (now named) (now words) ⌝ }
+    ensures { λ r. ⌜ moveOf r (now (named .exit)) (now (words .exit)) ≡ move phase (now (named .entry)) (now (words .entry)) «record» ⌝ }
+{
+    match record {
+        Record::Loop {
+            passes,
+            ranks,
+            regions,
+        } => {
+            if phase == 0 {
+                return take_loop(words, passes, ranks, regions);
+            }
+            Step::Stop(2)
+        }
+        Record::Start { region, value } => {
+            if phase == 1 {
+                return take_start(named, words, region, value);
+            }
+            Step::Stop(2)
+        }
+        Record::Begin {
+            rank,
+            kernel,
+            constant,
+        } => {
+            if phase == 0 {
+                return Step::Stop(2);
+            }
+            if phase >= 2 {
+                return Step::Stop(4);
+            }
+            take_begin(words, rank, kernel, constant)
+        }
+        Record::Access { mode, region } => {
+            if phase == 0 {
+                return Step::Stop(2);
+            }
+            if phase == 1 {
+                return Step::Stop(5);
+            }
+            take_access(words, mode, region)
+        }
+        Record::End => {
+            if phase == 0 {
+                return Step::Stop(2);
+            }
+            if phase == 1 {
+                return Step::Stop(5);
+            }
+            take_end(words)
+        }
+        Record::Unreadable => Step::Stop(1),
+    }
+}
+
+// What the lines lead to: a refusal at a line, or, one past the last line, a phase.
+enum Walk {
+    Refused { why: u64, line: u64 },
+    Done { phase: u64, line: u64 },
+}
+
+// Reads the lines of a text that is not too long into flags and words that are zeros.
+fn read_lines(text: &[u8], named: &mut [u64], words: &mut [u64]) -> Walk
+    requires { ⌜ (length (now text) ≤ maxBytes) × (now named ≡ replicate maxRegions 0) × (now words ≡ replicate planWords 0) ⌝ }
+    ensures { λ r. ⌜ Walked (now (text .entry)) r (now (words .exit)) ⌝ }
+{
+    let mut at: usize = 0;
+    let mut line: u64 = 1;
+    let mut phase: u64 = 0;
+    while at < text.len() {
+        let found = text::record_at(text, at);
+        match found {
+            RecordAt::Unended => {
+                return Walk::Refused { why: 1, line };
+            }
+            RecordAt::Line { record, next } => {
+                let step = take_record(phase, record, named, words);
+                match step {
+                    Step::Stop(why) => {
+                        return Walk::Refused { why, line };
+                    }
+                    Step::Go(then) => {
+                        phase = then;
+                        at = next;
+                        line += 1;
+                    }
+                }
+            }
+        }
+    }
+    Walk::Done { phase, line }
+}
+
+fn clear(words: &mut [u64])
+    ensures { λ _. ⌜ now (words .exit) ≡ replicate (length (now (words .entry))) 0 ⌝ }
+{
+    let mut i = 0;
+    while i < words.len() {
+        words[i] = 0;
+        i += 1;
+    }
+}
+
+// A refused text: its words are zeros.
+fn refuse(words: &mut [u64], why: u64, line: u64) -> Answer
+    requires { ⌜ length (now words) ≡ planWords ⌝ }
+    ensures { λ r. ⌜ Tells (refused why line) r (now (words .exit)) ⌝ }
+{
+    clear(words);
+    Answer { refusal: why, line }
+}
+
+// After the last line: whether the words are in form tells there whether their transfers are few enough.
+fn at_end(phase: u64, line: u64, words: &mut [u64], fits: bool) -> Answer
+    requires { ⌜ (length (now words) ≡ planWords) × (fits ≡ inForm (now words)) × (phase ≡ 1 → 1 ≤ tasksOf (now words) → wordsOk (now words) ≡ true) ⌝ }
+    ensures { λ r. ⌜ Tells (endOf line phase (now (words .entry))) r (now (words .exit)) ⌝ }
+{
+    if phase == 0 {
+        return refuse(words, 2, line);
+    }
+    if phase != 1 {
+        return refuse(words, 7, line);
+    }
+    let tasks = words[3];
+    if tasks == 0 {
+        return refuse(words, 8, line);
+    }
+    if !fits {
+        return refuse(words, 10, line);
+    }
+    Answer {
+        refusal: 0,
+        line: 0,
+    }
+}
+
+// Reads a text into the words of a plan.
+fn read_into(text: &[u8], words: &mut [u64]) -> Answer
+    requires { ⌜ length (now words) ≡ planWords ⌝ }
+    ensures { λ r. ⌜ Tells (readOf (now (text .entry))) r (now (words .exit)) ⌝ }
+{
+    clear(words);
+    if text.len() > 32768 {
+        return Answer {
+            refusal: 10,
+            line: 0,
+        };
+    }
+    let mut named = [0u64; 128];
+    let walk = read_lines(text, &mut named, words);
+    match walk {
+        Walk::Refused { why, line } => refuse(words, why, line),
+        Walk::Done { phase, line } => {
+            let fits = plan::in_form(words);
+            at_end(phase, line, words, fits)
+        }
+    }
+}
+
+// Reads a text into a plan of at least 1,668 words; those behind them stay.
+pub fn read(text: &[u8], plan: &mut [u64]) -> Answer
+    ensures { λ r. ⌜ Reads (now (text .entry)) (now (plan .entry)) r (now (plan .exit)) ⌝ }
+{
+    if plan.len() < 1668 {
+        return Answer {
+            refusal: 11,
+            line: 0,
+        };
+    }
+    read_into(text, &mut plan[..1668])
+}
