@@ -1,11 +1,10 @@
 -- How many items there are: the tasks, and two for each transfer.
-use Prim.Native.Nat.{ℕ, zero, suc, _+_, _*_, _<_}
+use Prim.Native.Nat.{ℕ, zero, suc, _+_, _*_}
 use mathlib.Core.Path.{_≡_, refl, sym, _∙_, ap}
-use mathlib.Core.List.{List, [], _∷_, _++_, flatMap}
+use mathlib.Core.List.{List, [], _∷_, flatMap}
 use native.Mathlib.Omega.{arith}
-use lib.ListN.{length, length-append}
+use lib.ListN.{length}
 use Rattle.finite.specs.Below.{sumBelow}
-use Rattle.finite.specs.Lists.{range}
 use Rattle.finite.proofs.Lists.{length-flatMap-range}
 use Rattle.body.specs.Body.{Body}
 use Rattle.body.specs.Transfers.{Transfer, transfer, transfersOf, transferCount}

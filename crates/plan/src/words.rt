@@ -1,7 +1,7 @@
 // The test of a plan's words, but for the number of transfers: one pass over the words that the plan uses, and one over those
 // that have to be 0. A plan that is lent can hold anything, so a number is tested before it is used as an index.
 ghost use mathlib.Core.Path.{_≡_};
-ghost use mathlib.Core.Bool.{false, cond};
+ghost use mathlib.Core.Bool.{false};
 ghost use Prim.Native.Nat.{suc, _≤_, _<_};
 ghost use lib.ListN.{length};
 ghost use Rattle.finite.specs.Below.{countBelow};
@@ -9,6 +9,11 @@ ghost use Rattle.plan.specs.Layout.{regionsOf, tasksOf, rankOf, kernelOf
 ghost use Rattle.plan.specs.Form.{countsOk, restOk};
 ghost use Rattle.plan.specs.Changes.{changeCount};
 ghost use Rattle.plan.specs.Scan.{kept, freshAllOk, changesOf, headOk, readsOk, scanOk, tasksScanOk, behindRegionsOk, behindTasksOk, Keeps, Open, Ready, Scanned, Answer};
+use crate::limits::MAX_KERNEL;
+use crate::limits::MAX_PASSES;
+use crate::limits::MAX_RANKS;
+use crate::limits::MAX_REGIONS;
+use crate::limits::MAX_TASKS;
 use crate::numbers::as_index;
 use crate::numbers::one_if;
 
@@ -36,10 +41,11 @@ fn counts_ok(plan: &[u64]) -> bool
     let ranks = plan[1];
     let regions = plan[2];
     let tasks = plan[3];
-    (passes <= 1000000)
+    (passes <= MAX_PASSES)
         & ((1 <= ranks)
-            & ((ranks <= 16)
-                & ((1 <= regions) & ((regions <= 128) & ((1 <= tasks) & (tasks <= 128))))))
+            & ((ranks <= MAX_RANKS)
+                & ((1 <= regions)
+                    & ((regions <= MAX_REGIONS) & ((1 <= tasks) & (tasks <= MAX_TASKS))))))
 }
 
 // The rank of task i.
@@ -83,7 +89,7 @@ fn head_ok(plan: &[u64], i: usize) -> bool
     let rank = plan[132 + 12 * i];
     let kernel = plan[133 + 12 * i];
     let accesses = plan[135 + 12 * i];
-    (rank < ranks) & ((kernel <= 4) & (accesses <= 8))
+    (rank < ranks) & ((kernel <= MAX_KERNEL) & (accesses <= 8))
 }
 
 // Whether access a of task i reads.

@@ -279,7 +279,3 @@ module _ (P : Plan) (t : Task) (m : Mode) (g : ℕ) (few : length (P .tasks) < 1
 
   pub access-writes : held (opened P (withAccess t m g)) ≡ x2
   access-writes = words-ext x2 new xsize2 open-at
-
--- `end` writes nothing
-pub end-writes : (P : Plan) (t : Task) → held (closed (withTask P t)) ≡ held (opened P t)
-end-writes P t = refl

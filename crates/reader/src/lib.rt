@@ -17,6 +17,15 @@ ghost use Rattle.reading.specs.Reading.{below, lies, readOf, refused, valueOf};
 ghost use Rattle.reader.specs.Answer.{Reads};
 ghost use Rattle.reader.specs.Machine.{endOf, move, openCount};
 ghost use Rattle.reader.specs.Steps.{Bounds, Tells, Walked, moveOf};
+use plan::limits::MAX_ACCESSES;
+use plan::limits::MAX_BYTES;
+use plan::limits::MAX_KERNEL;
+use plan::limits::MAX_PASSES;
+use plan::limits::MAX_RANKS;
+use plan::limits::MAX_REGIONS;
+use plan::limits::MAX_TASKS;
+use plan::limits::MAX_WORD;
+use plan::limits::PLAN_WORDS;
 use text::Mode;
 use text::Number;
 use text::Record;
@@ -108,13 +117,13 @@ fn take_loop(words: &mut [u64], passes: Number, ranks: Number, regions: Number) 
     requires { ⌜ length (now words) ≡ 1668 ⌝ }
     ensures { λ r. ⌜ ((f : List ℕ) → moveOf r f (now (words .exit)) ≡ move 0 f (now (words .entry)) (Record.Loop passes ranks regions)) ⌝ }
 {
-    if !is_within(0, 1000000, passes) {
+    if !is_within(0, MAX_PASSES, passes) {
         return Step::Stop(3);
     }
-    if !is_within(1, 16, ranks) {
+    if !is_within(1, MAX_RANKS, ranks) {
         return Step::Stop(3);
     }
-    if !is_within(1, 128, regions) {
+    if !is_within(1, MAX_REGIONS, regions) {
         return Step::Stop(3);
     }
     words[0] = value_of(passes);
@@ -136,7 +145,7 @@ fn take_start(named: &mut [u64], words: &mut [u64], region: Number, value: Numbe
     if !is_below(regions, region) {
         return Step::Stop(3);
     }
-    if !is_within(0, 18446744073709551615, value) {
+    if !is_within(0, MAX_WORD, value) {
         return Step::Stop(3);
     }
     let g = value_of(region) as usize;
@@ -158,14 +167,14 @@ fn take_begin(words: &mut [u64], rank: Number, kernel: Number, constant: Number)
     if !is_below(ranks, rank) {
         return Step::Stop(3);
     }
-    if !is_within(0, 4, kernel) {
+    if !is_within(0, MAX_KERNEL, kernel) {
         return Step::Stop(3);
     }
-    if !is_within(0, 18446744073709551615, constant) {
+    if !is_within(0, MAX_WORD, constant) {
         return Step::Stop(3);
     }
     let tasks = words[3];
-    if tasks >= 128 {
+    if tasks >= MAX_TASKS {
         return Step::Stop(10);
     }
     let t = tasks as usize;
@@ -187,7 +196,7 @@ fn take_access(words: &mut [u64], mode: Mode, region: Number) -> Step
     }
     let t = words[3] as usize - 1;
     let n = words[135 + 12 * t] as usize;
-    if n >= 8 {
+    if n >= MAX_ACCESSES {
         return Step::Stop(10);
     }
     let g = value_of(region);
@@ -357,7 +366,7 @@ fn read_into(text: &[u8], words: &mut [u64]) -> Answer
     ensures { λ r. ⌜ Tells (readOf (now (text .entry))) r (now (words .exit)) ⌝ }
 {
     clear(words);
-    if text.len() > 32768 {
+    if text.len() > MAX_BYTES {
         return Answer {
             refusal: 10,
             line: 0,
@@ -378,11 +387,11 @@ fn read_into(text: &[u8], words: &mut [u64]) -> Answer
 pub fn read(text: &[u8], plan: &mut [u64]) -> Answer
     ensures { λ r. ⌜ Reads (now (text .entry)) (now (plan .entry)) r (now (plan .exit)) ⌝ }
 {
-    if plan.len() < 1668 {
+    if plan.len() < PLAN_WORDS {
         return Answer {
             refusal: 11,
             line: 0,
         };
     }
-    read_into(text, &mut plan[..1668])
+    read_into(text, &mut plan[..PLAN_WORDS])
 }

@@ -6,7 +6,7 @@ use lib.ListN.{length, getD}
 use lib.Dec.{eqb, ltb}
 use Rattle.text.specs.declared.Mode.{Mode}
 use Rattle.finite.specs.Lists.{tabulate}
-use Rattle.plan.specs.Layout.{planWords, at, passesOf, ranksOf, regionsOf, tasksOf, startingOf, rankOf, kernelOf, constantOf, accessesOf, accessAt}
+use Rattle.plan.specs.Layout.{planWords, passesOf, ranksOf, regionsOf, tasksOf, startingOf, rankOf, kernelOf, constantOf, accessesOf, accessAt}
 
 -- a `start` record
 pub record Start : Type 0 where
