@@ -12,3 +12,4 @@ pub mod Found
 pub mod Trace
 pub mod Bound
 pub mod Answers
+pub mod Zeros

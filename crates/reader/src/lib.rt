@@ -4,7 +4,7 @@
 ghost use mathlib.Core.Path.{_≡_};
 ghost use mathlib.Core.Bool.{true};
 ghost use mathlib.Core.List.{List};
-ghost use Prim.Native.Nat.{ℕ, _+_, _*_, _-_, _≤_, _<_};
+ghost use Prim.Native.Nat.{ℕ, _≤_, _<_};
 ghost use lib.Dec.{eqb};
 ghost use lib.ListN.{length, replicate};
 ghost use Rattle.text.specs.declared.Record.{Record};
@@ -44,6 +44,7 @@ enum Step {
     Stop(u64),
 }
 
+// Whether a number of the text is below a limit.
 fn is_below(limit: u64, x: Number) -> bool
     ensures { λ r. ⌜ r ≡ below limit x ⌝ }
 {
@@ -54,6 +55,7 @@ fn is_below(limit: u64, x: Number) -> bool
     }
 }
 
+// Whether a number of the text lies from the lowest to the highest.
 fn is_within(lowest: u64, highest: u64, x: Number) -> bool
     ensures { λ r. ⌜ r ≡ lies lowest highest x ⌝ }
 {
@@ -64,6 +66,7 @@ fn is_within(lowest: u64, highest: u64, x: Number) -> bool
     }
 }
 
+// A number that was tested.
 fn value_of(x: Number) -> u64
     ensures { λ r. ⌜ r ≡ valueOf x ⌝ }
 {
@@ -74,6 +77,7 @@ fn value_of(x: Number) -> u64
     }
 }
 
+// The mode in an access word.
 fn mode_word(mode: Mode) -> u64
     ensures { λ r. ⌜ (r ≡ modeWord mode) × (r ≤ 2) ⌝ }
 {
@@ -112,7 +116,7 @@ fn count_reads(words: &[u64], t: usize, n: usize) -> u64
     reads
 }
 
-// The first line.
+// The first line: its numbers are the first words.
 fn take_loop(words: &mut [u64], passes: Number, ranks: Number, regions: Number) -> Step
     requires { ⌜ length (now words) ≡ 1668 ⌝ }
     ensures { λ r. ⌜ ((f : List ℕ) → moveOf r f (now (words .exit)) ≡ move 0 f (now (words .entry)) (Record.Loop passes ranks regions)) ⌝ }
@@ -317,6 +321,7 @@ fn read_lines(text: &[u8], named: &mut [u64], words: &mut [u64]) -> Walk
     Walk::Done { phase, line }
 }
 
+// Zeros in every word.
 fn clear(words: &mut [u64])
     ensures { λ _. ⌜ now (words .exit) ≡ replicate (length (now (words .entry))) 0 ⌝ }
 {

@@ -13,9 +13,10 @@ use Rattle.finite.proofs.Lists.{length-tabulate}
 use Rattle.finite.proofs.Tests.{and-intro, and-true}
 use Rattle.body.specs.Transfers.{transferCount}
 use Rattle.plan.specs.Form.{Words, inForm, wordsOk}
-use Rattle.plan.specs.Layout.{at, bodyOf, planWords}
+use Rattle.plan.specs.Layout.{bodyOf, planWords}
 use Rattle.plan.specs.Limits.{maxTransfers}
 use Rattle.plan.proofs.Facts.{fits}
+use Rattle.plan.proofs.Zeros.{zeros}
 use Rattle.reading.specs.Laws.{Laws}
 use Rattle.reading.specs.Plan.{Plan, Task, accessWord, noTask, startAt, taskAt, taskWord, wordAt, wordsOf}
 use Rattle.reading.specs.Reading.{accepted, readOf}
@@ -24,7 +25,7 @@ use Rattle.reading.specs.Written.{textOf}
 use Rattle.reading.proofs.Accepted.{accepted-kept}
 use Rattle.reading.proofs.Back.{is-canonical, noAccess, word-at}
 use Rattle.reading.proofs.FirstFit.{read-answers, too-long}
-use Rattle.reading.proofs.Forms.{canonical-ok, mode-few, ok-canonical, tests}
+use Rattle.reading.proofs.Forms.{canonical-ok, mode-few, ok-canonical}
 use Rattle.reading.proofs.Holds.{held}
 use Rattle.reading.proofs.Limits.{Limits, Opens, is-open, limits, opens}
 use Rattle.reading.proofs.Numbers.{refusal-known}
@@ -123,15 +124,6 @@ pub zero-at : (n i : ℕ) → _≡_ {A = ℕ} (getD (replicate n 0) i 0) 0
 zero-at zero i = refl
 zero-at (suc n) zero = refl
 zero-at (suc n) (suc i) = zero-at n i
-
-zeros : (n : ℕ) → inForm (replicate n 0) ≡ false
-zeros n = go (inForm (replicate n 0)) refl
-  where
-    go : (t : Bool) → inForm (replicate n 0) ≡ t → t ≡ false
-    go true e =
-        let l : 1 ≤ at (replicate n 0) 1 = leb-true _ _ (tests (replicate n 0) (form-parts (replicate n 0) e .0) .some-rank) in
-        absurd (omega (arith, zero-at n 1))
-    go false e = refl
 
 pub laws : Laws
 laws =

@@ -1,0 +1,53 @@
+use Prim.Native.Nat.{_-_}
+use borrow.Author.Needs.{needs}
+use Rattle.reading_cases.proofs.second.is_word.Statement.{statement}
+use Rattle.reading_cases.proofs.second.is_word.Tie as tie
+
+abbrev Inv-loop : tie.InvT-loop
+Inv-loop text first end word same₀ i₀ i-end same i = Unit
+
+abbrev μ-loop : tie.MeasureT-loop
+μ-loop text first end word same₀ i₀ i-end same i = i-end - i
+
+behind-requires : tie.Need-behind-requires Inv-loop μ-loop
+behind-requires c κs = search needs
+
+loop-holds : tie.Need-loop-holds Inv-loop μ-loop
+loop-holds c = search needs
+
+behind-requires-2 : tie.Need-behind-requires-2 Inv-loop μ-loop
+behind-requires-2 c κs = search needs
+
+byte-at-requires : tie.Need-byte-at-requires Inv-loop μ-loop
+byte-at-requires c κs = search needs
+
+byte-at-requires-2 : tie.Need-byte-at-requires-2 Inv-loop μ-loop
+byte-at-requires-2 c κs = search needs
+
+add-i : tie.Need-add-i Inv-loop μ-loop
+add-i c = search needs
+
+loop-less : tie.Need-loop-less Inv-loop μ-loop
+loop-less c = search needs
+
+loop-again : tie.Need-loop-again Inv-loop μ-loop
+loop-again c = search needs
+
+returns : tie.Need-returns Inv-loop μ-loop
+returns c = search needs
+
+pub is-word-spec : {M : Type 1} → statement M
+is-word-spec =
+    tie.close
+    (tie.spec
+    Inv-loop
+    μ-loop
+    behind-requires
+    loop-holds
+    behind-requires-2
+    byte-at-requires
+    byte-at-requires-2
+    add-i
+    loop-less
+    loop-again
+    returns)
