@@ -172,7 +172,7 @@ firstFit rs r =
     (cond (unsuited rs r) 9
     0)))))))
 
--- after the last line, one past it: 7 a task open, 8 no task, where the text has a line
+-- after the last line, one past it: 2 an empty text, 7 a task open, 8 no task
 abbrev pub lastFit : List Record → ℕ
 lastFit [] = 2
 lastFit (r ∷ rs) = cond (isOpen (r ∷ rs)) 7 (cond (eqb (begins (r ∷ rs)) 0) 8 0)
