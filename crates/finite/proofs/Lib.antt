@@ -6,3 +6,4 @@ pub mod Update
 pub mod Decide
 pub mod Sorted
 pub mod Tabulate
+pub mod Bits

@@ -1,4 +1,4 @@
--- Laws of range, tabulate, gather and flatMap. Those that end in -none, -more and -done are a loop's that fills a list: before
+-- Laws of range, tabulate, replicate, gather and flatMap. Those that end in -none, -more and -done are a loop's that fills a list: before
 -- its first turn, over a turn, and after its last.
 use Prim.Native.Nat.{ℕ, zero, suc, _+_, _≤_, _<_}
 use mathlib.Core.Path.{_≡_, refl, sym, _∙_, ap}
@@ -9,7 +9,8 @@ use native.Mathlib.Decide.{decLt}
 use native.Mathlib.Nat.{add-zero}
 use native.Mathlib.Numerals.{add-one}
 use native.Mathlib.Omega.{arith}
-use lib.ListN.{length, getD, take, set, length-append, List·getD-append}
+use borrow.Author.Fill.{fill-more}
+use lib.ListN.{length, getD, take, drop, set, replicate, length-append, drop-of-length-le, List·getD-append}
 use lib.Seq.{take-suc-set, take-set-le, take-all, getD-at}
 use Rattle.finite.specs.Below.{countBelow, sumBelow}
 use Rattle.finite.specs.Lists.{range, tabulate, gather}
@@ -58,6 +59,17 @@ pub length-flatMap-range : {Y : Type 0} (f : ℕ → List Y) (n : ℕ) → lengt
 unfolding range flatMap sumBelow
 length-flatMap-range f zero = refl
 length-flatMap-range f (suc n) = ap length (flatMap-range f n) ∙ (length-append (flatMap f (range 0 n)) (f n) ∙ rw (length-flatMap-range f n))
+
+-- replicate
+
+-- a turn that stores v at i
+pub replicate-more : (v i : ℕ) (xs ys : List ℕ) → ys ≡ replicate i v ++ drop i xs → i < length xs → set ys i v ≡ replicate (i + 1) v ++ drop (i + 1) xs
+replicate-more v i xs ys h l = rw h (fill-more i v xs l)
+
+pub replicate-done : (v i : ℕ) (xs ys : List ℕ) → ys ≡ replicate i v ++ drop i xs → length xs ≤ i → i ≤ length xs → ys ≡ replicate (length xs) v
+replicate-done v i xs ys h a b =
+    let e : length xs ≡ i = omega arith in
+    h ∙ rw (drop-of-length-le xs a, append-nil, e)
 
 module _ {X : Type 0} where
   -- tabulate

@@ -41,5 +41,6 @@ module _ (w : List ℕ) where
   pub long-form : (r : Bool) → planWords ≤ length w → r ≡ inForm (take planWords w) → r ≡ (leb planWords (length w) && inForm (take planWords w))
   long-form r h e = rw (le-leb planWords (length w) h) e
 
-  pub take-length : planWords ≤ length w → planWords ≡ length (take planWords w)
-  take-length h = sym (length-take-le planWords w h)
+-- the length of a part that is lent
+pub take-length : (n : ℕ) (l : List ℕ) → n ≤ length l → n ≡ length (take n l)
+take-length n l h = sym (length-take-le n l h)

@@ -1,23 +1,25 @@
 -- What the flags hold after the reads of the tasks before t, and that at the end they are those of the transfers.
-use Prim.Native.Nat.{ℕ, zero, suc, _+_, _*_, _/_, _%_, _≤_, _<_}
+use Prim.Native.Nat.{ℕ, zero, suc, _+_, _-_, _*_, _/_, _%_, _^_, _≤_, _<_}
 use mathlib.Core.Path.{_≡_, refl, sym, _∙_, ap, subst}
 use mathlib.Core.Bool.{Bool, true, false, cond, not, _&&_, _||_, or-true, or-false, and-false, and-eq-true-iff}
 use mathlib.Core.List.{List}
 use mathlib.Core.Option.{Option, none, some}
 use native.Mathlib.Omega.{arith}
-use borrow.Author.Tests.{ltb-true, leb-true, eqb-true, eqb-false, not-true, lt-ltb, le-leb, eq-eqb, ne-eqb}
-use lib.Dec.{eqb, ltb, leb}
+use native.Mathlib.Nat.{zero-div}
+use borrow.Author.Tests.{ltb-true, eqb-true, eqb-false, not-true, lt-ltb, eq-eqb, ne-eqb}
+use lib.Dec.{eqb, ltb}
 use lib.ListN.{length, getD, set, replicate, length-set, length-replicate, getD-replicate}
 use lib.Seq.{getD-set-same, getD-set-other, ext-getD}
 use Rattle.finite.specs.Below.{anyBelow}
 use Rattle.finite.specs.Lists.{mem}
 use Rattle.finite.proofs.Tests.{test-ext, and-parts, not-both}
+use Rattle.finite.proofs.Bits.{bitsBelow, bit-low, bits-at, bits-without}
 use Rattle.finite.proofs.Members.{mem-gather}
 use Rattle.finite.proofs.Lists.{length-tabulate, getD-tabulate}
 use Rattle.body.specs.Transfers.{equals, source, wanted, transferred}
 use Rattle.plan.specs.Layout.{ranksOf, tasksOf, rankOf, accessesOf, accessAt, regionAt, isRead, isWritten, readsOf, bodyOf}
-use Rattle.plan.specs.Wanted.{wantedAt, wantedFlags}
-use Rattle.plan.specs.Search.{rowOf, baseOf, notedTasks, claims, flagOf, claimed, marked, markedTasks, perFlag}
+use Rattle.plan.specs.Wanted.{wantedAt}
+use Rattle.plan.specs.Search.{rowOf, baseOf, notedTasks, claims, flagOf, claimed, marked, markedTasks, perFlag, wantedFlags}
 use Rattle.plan.proofs.Facts.{Formed}
 use Rattle.plan.proofs.Rows.{row-at}
 use Rattle.plan.proofs.Last.{Writer, Names, headLast, source-named}
@@ -72,6 +74,22 @@ and-regroup true false c d e f = refl
 and-regroup true true false d e f = refl
 and-regroup true true true false e f = refl
 and-regroup true true true true e f = refl
+
+-- bit q of the number of access a of task i on rank r
+source-bit : (i a r q : ℕ) → r < 16 → q < 16 → (524288 * i + (65535 - 2 ^ r) + 65536 * a) / 2 ^ q % 2 ≡ cond (eqb q r) 0 1
+source-bit i a r q l m =
+    let e : 524288 * i + (65535 - 2 ^ r) + 65536 * a ≡ (8 * i + a) * 2 ^ 16 + bitsBelow 16 (λ j. not (eqb j r)) = omega (arith, bits-without 16 r l) in
+    ap (λ (x : ℕ). x / 2 ^ q % 2) e
+    ∙ (bit-low (8 * i + a) (bitsBelow 16 (λ j. not (eqb j r))) 16 q m
+    ∙ (bits-at 16 (λ j. not (eqb j r)) q m ∙ turn (eqb q r)))
+  where
+    turn : (b : Bool) → _≡_ {A = ℕ} (cond (not b) 1 0) (cond b 0 1)
+    turn true = refl
+    turn false = refl
+
+-- no bit of 0 is set
+zero-bit : (s q : ℕ) → s ≡ 0 → s / 2 ^ q % 2 ≡ 1 → ⊥
+zero-bit s q e h = let z : s / 2 ^ q ≡ 0 = rw e (zero-div (2 ^ q)) in omega arith
 
 module _ (w : List ℕ) (F : Formed w) where
   -- access a of task i writes, and q is a rank other than the task's
@@ -136,9 +154,14 @@ module _ (w : List ℕ) (F : Formed w) where
   within-all t i a q = rw (mem-gather (accessesOf w t) (isRead w t) (regionAt w t) (regionAt w i a))
 
   -- where s is not 0 it names a task
-  named-some : (g s : ℕ) (o : Option ℕ) → 16 ≤ s → Names w g o s → (i : ℕ) × (equals o i ≡ true) × Writer w g i s
-  named-some g s none l h = absurd (omega arith)
-  named-some g s (some i) l h = (i, eq-eqb i i refl, h)
+  named-some : (g s : ℕ) (o : Option ℕ) → (s ≡ 0 → ⊥) → Names w g o s → (i : ℕ) × (equals o i ≡ true) × Writer w g i s
+  named-some g s none n h = absurd (n h)
+  named-some g s (some i) n h = (i, eq-eqb i i refl, h)
+
+  -- the bit of a writer's number that task t asks for
+  writer-bit : (g i s t : ℕ) (v : Writer w g i s) → t < tasksOf w → s / 2 ^ rankOf w t % 2 ≡ cond (eqb (rankOf w t) (rankOf w i)) 0 1
+  writer-bit g i s t v l =
+      ap (λ (x : ℕ). x / 2 ^ rankOf w t % 2) (v .same) ∙ source-bit i (v .access) (rankOf w i) (rankOf w t) (F .used i (v .task) .rank-most) (F .used t l .rank-most)
 
   named-equals : (g s i : ℕ) (o : Option ℕ) → equals o i ≡ true → Names w g o s → Writer w g i s
   named-equals g s i none e h = absurd (not-both e refl)
@@ -157,10 +180,9 @@ module _ (w : List ℕ) (F : Formed w) where
         at i a q e o p r z v =
             let u = F .used i (o .task) in
             let same : v .access ≡ a = u .apart (v .access) a (v .below) (o .below) (v .region ∙ sym z) in
-            let m : s ≡ baseOf w i + 16 * a = v .same ∙ ap (λ (x : ℕ). baseOf w i + 16 * x) same in
-            and-parts
-            (and-parts r (and-parts (le-leb 16 s (omega arith)) (ap not (ne-eqb (s % 16) (rankOf w t) (λ y. o .other (omega (arith, u .rank-most)))))))
-            (eq-eqb k (flagOf s (rankOf w t)) (omega (arith, u .rank-most)))
+            let m : s ≡ baseOf w i + 65536 * a = v .same ∙ ap (λ (x : ℕ). baseOf w i + 65536 * x) same in
+            let bit : s / 2 ^ rankOf w t % 2 ≡ 1 = writer-bit (regionAt w t n) i s t v lt ∙ rw (ne-eqb (rankOf w t) (rankOf w i) (λ y. o .other (sym p ∙ y))) in
+            and-parts (and-parts r (eq-eqb (s / 2 ^ rankOf w t % 2) 1 bit)) (eq-eqb k (flagOf s (rankOf w t)) (omega arith))
 
         go : (i a q : ℕ) → k ≡ 128 * i + 16 * a + q → added t n i a q ≡ true → sets t n s k ≡ true
         go i a q e h =
@@ -175,20 +197,20 @@ module _ (w : List ℕ) (F : Formed w) where
     sets-added : (k : ℕ) → sets t n s k ≡ true → perFlag (added t n) k ≡ true
     sets-added k h =
         let c = and-eq-true-iff (claims (isRead w t n) s (rankOf w t)) (eqb k (flagOf s (rankOf w t))) .0 h in
-        let r = and-eq-true-iff (isRead w t n) _ .0 (c .0) in
-        let l = and-eq-true-iff (leb 16 s) (not (eqb (s % 16) (rankOf w t))) .0 (r .1) in
-        let low : 16 ≤ s = leb-true 16 s (l .0) in
-        go (r .0) low (eqb-false (s % 16) (rankOf w t) (not-true (eqb (s % 16) (rankOf w t)) (l .1))) (eqb-true k (flagOf s (rankOf w t)) (c .1))
-        (named-some (regionAt w t n) s (source (bodyOf w) t (regionAt w t n)) low named)
+        let r = and-eq-true-iff (isRead w t n) (eqb (s / 2 ^ rankOf w t % 2) 1) .0 (c .0) in
+        let bit : s / 2 ^ rankOf w t % 2 ≡ 1 = eqb-true (s / 2 ^ rankOf w t % 2) 1 (r .1) in
+        go (r .0) bit (eqb-true k (flagOf s (rankOf w t)) (c .1))
+        (named-some (regionAt w t n) s (source (bodyOf w) t (regionAt w t n)) (λ e. zero-bit s (rankOf w t) e bit) named)
       where
-        go : isRead w t n ≡ true → 16 ≤ s → (s % 16 ≡ rankOf w t → ⊥) → k ≡ flagOf s (rankOf w t)
+        go : isRead w t n ≡ true → s / 2 ^ rankOf w t % 2 ≡ 1 → k ≡ flagOf s (rankOf w t)
             → (i : ℕ) × (equals (source (bodyOf w) t (regionAt w t n)) i ≡ true) × Writer w (regionAt w t n) i s → perFlag (added t n) k ≡ true
-        go r low apart e (i, f, v) =
+        go r bit e (i, f, v) =
             let u = F .used i (v .task) in
             let m = F .used t lt in
             let y = v .same in
+            let apart : rankOf w t ≡ rankOf w i → ⊥ = λ z. let d : _≡_ {A = ℕ} 0 1 = sym (writer-bit (regionAt w t n) i s t v lt ∙ rw (eq-eqb (rankOf w t) (rankOf w i) z)) ∙ bit in omega arith in
             let o : Foreign i (v .access) (rankOf w t) =
-            record { task = v .task; below = v .below; writes = v .writes; rank = m .rank-below; other = λ z. apart (omega (arith, u .rank-most)) } in
+            record { task = v .task; below = v .below; writes = v .writes; rank = m .rank-below; other = apart } in
             perFlag-at (added t n) k i (v .access) (rankOf w t) (omega (arith, v .below, u .accesses-most)) (m .rank-most) (omega (arith, u .rank-most))
             ∙ and-parts (foreign-of i (v .access) (rankOf w t) o)
             (and-parts (eq-eqb (rankOf w t) (rankOf w t) refl)

@@ -4,7 +4,7 @@ use Prim.Native.Nat.{ℕ, zero, suc, _+_, _*_, _≤_, _<_}
 use mathlib.Core.Path.{_≡_, refl, sym, _∙_, subst}
 use mathlib.Core.Bool.{Bool, true, false, cond, _&&_, and-eq-true-iff}
 use mathlib.Core.Logic.{⊎-elim}
-use mathlib.Core.List.{List}
+use mathlib.Core.List.{List, []}
 use mathlib.Core.Option.{Option, none, some, orElse}
 use native.Mathlib.Decide.{decLt, ℕ-discrete}
 use native.Mathlib.Numerals.{add-one}
@@ -21,7 +21,7 @@ use Rattle.finite.proofs.Update.{length-set-if, set-ind}
 use Rattle.body.specs.Transfers.{lastBefore, source}
 use Rattle.body.proofs.Writers.{last-wrote, last-kept}
 use Rattle.plan.specs.Layout.{tasksOf, accessesOf, regionAt, isWritten, writesOf, bodyOf}
-use Rattle.plan.specs.Search.{rowOf, writesIn, regionIn, Laid, baseOf, Apart, Sources, noted, notedTask, notedTasks}
+use Rattle.plan.specs.Search.{rowOf, writesIn, regionIn, Laid, Ready, baseOf, Apart, Sources, noted, notedTask, notedTasks}
 use Rattle.plan.proofs.Facts.{Formed, formed}
 use Rattle.plan.proofs.Rows.{row-writes, row-region}
 
@@ -32,29 +32,30 @@ unfolding noted
 noted-none row base last = refl
 
 pub noted-more : (row : List ℕ) (base a g : ℕ) (last xs ys : List ℕ) → xs ≡ noted row base a last → g ≡ regionIn row a
-    → ys ≡ cond (writesIn row a) (set xs g (base + 16 * a)) xs → ys ≡ noted row base (a + 1) last
+    → ys ≡ cond (writesIn row a) (set xs g (base + 65536 * a)) xs → ys ≡ noted row base (a + 1) last
 unfolding noted
 noted-more row base a g last xs ys h e f = rw (add-one, f, h, e)
 
 pub noted-done : (row : List ℕ) (base n a : ℕ) (last xs : List ℕ) → xs ≡ noted row base a last → n ≤ a → a ≤ n → xs ≡ noted row base n last
 noted-done row base n a last xs h p q = let e : n ≡ a = omega arith in rw e h
 
--- of a row and a number that are known otherwise
-pub noted-as : (row row′ : List ℕ) (base n n′ : ℕ) (last xs : List ℕ) → xs ≡ noted row base n last → row ≡ row′ → n ≡ n′ → xs ≡ noted row′ base n′ last
-noted-as row row′ base n n′ last xs h e f = rw (← e, ← f) h
+-- of a row and numbers that are known otherwise
+pub noted-as : (row row′ : List ℕ) (base base′ n n′ : ℕ) (last xs : List ℕ) → xs ≡ noted row base n last → row ≡ row′ → base ≡ base′ → n ≡ n′
+    → xs ≡ noted row′ base′ n′ last
+noted-as row row′ base base′ n n′ last xs h e b f = rw (← e, ← b, ← f) h
 
 pub length-noted : (row : List ℕ) (base n : ℕ) (last : List ℕ) → length (noted row base n last) ≡ length last
 unfolding noted
 length-noted row base zero last = refl
-length-noted row base (suc a) last = length-set-if (writesIn row a) (noted row base a last) (regionIn row a) (base + 16 * a) ∙ length-noted row base a last
+length-noted row base (suc a) last = length-set-if (writesIn row a) (noted row base a last) (regionIn row a) (base + 65536 * a) ∙ length-noted row base a last
 
-noted-below : (row : List ℕ) (base n m : ℕ) (last : List ℕ) → ((a : ℕ) → a < n → base + 16 * a < m) → ((g : ℕ) → getD last g 0 < m) → (g : ℕ) → getD (noted row base n last) g 0 < m
+noted-below : (row : List ℕ) (base n m : ℕ) (last : List ℕ) → ((a : ℕ) → a < n → base + 65536 * a < m) → ((g : ℕ) → getD last g 0 < m) → (g : ℕ) → getD (noted row base n last) g 0 < m
 unfolding noted
 noted-below row base zero m last h f g = f g
 noted-below row base (suc a) m last h f g = turn (writesIn row a) (noted-below row base a m last (λ b l. h b (omega arith)) f g)
   where
-    turn : (b : Bool) → getD (noted row base a last) g 0 < m → getD (cond b (set (noted row base a last) (regionIn row a) (base + 16 * a)) (noted row base a last)) g 0 < m
-    turn true e = set-ind (λ x. x < m) (noted row base a last) (regionIn row a) g (base + 16 * a) 0 (h a (omega arith)) e
+    turn : (b : Bool) → getD (noted row base a last) g 0 < m → getD (cond b (set (noted row base a last) (regionIn row a) (base + 65536 * a)) (noted row base a last)) g 0 < m
+    turn true e = set-ind (λ x. x < m) (noted row base a last) (regionIn row a) g (base + 65536 * a) 0 (h a (omega arith)) e
     turn false e = e
 
 -- a region that the accesses do not write
@@ -65,24 +66,38 @@ noted-kept row base zero last g h = refl
 noted-kept row base (suc a) last g h = turn (writesIn row a) refl ∙ noted-kept row base a last g (λ b l. h b (omega arith))
   where
     turn : (b : Bool) → writesIn row a ≡ b
-        → getD (cond b (set (noted row base a last) (regionIn row a) (base + 16 * a)) (noted row base a last)) g 0 ≡ getD (noted row base a last) g 0
-    turn true e = getD-set-other (noted row base a last) (regionIn row a) g (base + 16 * a) 0 (λ z. h a (omega arith) e (sym z))
+        → getD (cond b (set (noted row base a last) (regionIn row a) (base + 65536 * a)) (noted row base a last)) g 0 ≡ getD (noted row base a last) g 0
+    turn true e = getD-set-other (noted row base a last) (regionIn row a) g (base + 65536 * a) 0 (λ z. h a (omega arith) e (sym z))
     turn false e = refl
 
 -- the region of an access that writes, and that no other access has
 noted-wrote : (row : List ℕ) (base n : ℕ) (last : List ℕ) (a : ℕ) → a < n → writesIn row a ≡ true → regionIn row a < length last
-    → ((b : ℕ) → b < n → regionIn row b ≡ regionIn row a → b ≡ a) → getD (noted row base n last) (regionIn row a) 0 ≡ base + 16 * a
+    → ((b : ℕ) → b < n → regionIn row b ≡ regionIn row a → b ≡ a) → getD (noted row base n last) (regionIn row a) 0 ≡ base + 65536 * a
 unfolding noted
 noted-wrote row base zero last a l e m f = absurd (omega arith)
 noted-wrote row base (suc k) last a l e m f = elim (ℕ-discrete k a) [ yes z ↦ here z | no z ↦ there (writesIn row k) z (noted-wrote row base k last a (omega arith) e m (λ b j. f b (omega arith))) ]
   where
-    here : k ≡ a → getD (noted row base (suc k) last) (regionIn row a) 0 ≡ base + 16 * a
-    here z = rw (z, e) (getD-set-same (noted row base a last) (regionIn row a) (base + 16 * a) 0 (omega (arith, length-noted row base a last)))
+    here : k ≡ a → getD (noted row base (suc k) last) (regionIn row a) 0 ≡ base + 65536 * a
+    here z = rw (z, e) (getD-set-same (noted row base a last) (regionIn row a) (base + 65536 * a) 0 (omega (arith, length-noted row base a last)))
 
-    there : (b : Bool) → (k ≡ a → ⊥) → getD (noted row base k last) (regionIn row a) 0 ≡ base + 16 * a
-        → getD (cond b (set (noted row base k last) (regionIn row k) (base + 16 * k)) (noted row base k last)) (regionIn row a) 0 ≡ base + 16 * a
-    there true z h = getD-set-other (noted row base k last) (regionIn row k) (regionIn row a) (base + 16 * k) 0 (λ y. z (f k (omega arith) (sym y))) ∙ h
+    there : (b : Bool) → (k ≡ a → ⊥) → getD (noted row base k last) (regionIn row a) 0 ≡ base + 65536 * a
+        → getD (cond b (set (noted row base k last) (regionIn row k) (base + 65536 * k)) (noted row base k last)) (regionIn row a) 0 ≡ base + 65536 * a
+    there true z h = getD-set-other (noted row base k last) (regionIn row k) (regionIn row a) (base + 65536 * k) 0 (λ y. z (f k (omega arith) (sym y))) ∙ h
     there false z h = h
+
+-- words 0 behind the first n accesses write nothing
+noted-rest : (row : List ℕ) (base n m : ℕ) (last : List ℕ) → n ≤ m → ((a : ℕ) → n ≤ a → a < m → getD row a 0 ≡ 0) → noted row base m last ≡ noted row base n last
+unfolding noted
+noted-rest row base n zero last l h = let e : n ≡ 0 = omega arith in rw e
+noted-rest row base n (suc m) last l h =
+    elim (ℕ-discrete n (suc m)) [
+      | yes e ↦ rw e
+      | no e ↦ rw (h m (omega arith) (omega arith)) (noted-rest row base n m last (omega arith) (λ a u v. h a u (omega arith)))
+    ]
+
+pub noted-row : (w : List ℕ) (table : List (List ℕ)) (t base : ℕ) (last xs : List ℕ) → Ready w table t → base ≡ baseOf w t → xs ≡ noted (getD table t []) base 8 last
+    → xs ≡ notedTask w t last
+noted-row w table t base last xs r e f = f ∙ (noted-rest (getD table t []) base (accessesOf w t) 8 last (r .accesses-most) (r .rest) ∙ rw (e, r .row))
 
 -- the region of the next access, where no two accesses have one region
 pub noted-own : (row : List ℕ) (base n a : ℕ) (last xs : List ℕ) → Apart row n → a < n → xs ≡ noted row base a last → getD xs (regionIn row a) 0 ≡ getD last (regionIn row a) 0
@@ -111,7 +126,7 @@ orElse-none (some i) = refl
 pub sources-none : Sources (replicate 128 0)
 sources-none = record { size = length-replicate {A = ℕ} 128 0; each = λ g. none-at g }
   where
-    none-at : (g : ℕ) → getD {A = ℕ} (replicate 128 0) g 0 < 16400
+    none-at : (g : ℕ) → getD {A = ℕ} (replicate 128 0) g 0 < 67108864
     none-at g = elim (decLt g 128) [ yes l ↦ rw (getD-replicate {A = ℕ} 128 g 0 0 l) (omega arith) | no l ↦ rw (List·getD-eq-default {A = ℕ} (replicate 128 0) 0 {n = g} (omega (arith, length-replicate {A = ℕ} 128 0))) (omega arith) ]
 
 module _ (w : List ℕ) where
@@ -122,7 +137,7 @@ module _ (w : List ℕ) where
     pub below : access < accessesOf w i
     pub writes : isWritten w i access ≡ true
     pub region : regionAt w i access ≡ g
-    pub same : s ≡ baseOf w i + 16 * access
+    pub same : s ≡ baseOf w i + 65536 * access
 
   -- s names the writer of region g, where there is one
   abbrev pub Names : ℕ → Option ℕ → ℕ → Type 0
@@ -139,11 +154,11 @@ module _ (w : List ℕ) (F : Formed w) where
   length-notedTasks zero last = refl
   length-notedTasks (suc t) last = length-noted (rowOf w t) (baseOf w t) (accessesOf w t) (notedTasks w t last) ∙ length-notedTasks t last
 
-  notedTasks-below : (t : ℕ) (last : List ℕ) → t ≤ tasksOf w → ((g : ℕ) → getD last g 0 < 16400) → (g : ℕ) → getD (notedTasks w t last) g 0 < 16400
+  notedTasks-below : (t : ℕ) (last : List ℕ) → t ≤ tasksOf w → ((g : ℕ) → getD last g 0 < 67108864) → (g : ℕ) → getD (notedTasks w t last) g 0 < 67108864
   unfolding notedTasks
   notedTasks-below zero last l f g = f g
   notedTasks-below (suc t) last l f g =
-      noted-below (rowOf w t) (baseOf w t) (accessesOf w t) 16400 (notedTasks w t last)
+      noted-below (rowOf w t) (baseOf w t) (accessesOf w t) 67108864 (notedTasks w t last)
       (λ a m. omega (arith, F .tasks-most, F .used t l .rank-most, F .used t l .accesses-most)) (notedTasks-below t last (omega arith) f) g
 
   pub sources-after : (t : ℕ) (last : List ℕ) → t ≤ tasksOf w → Sources last → Sources (notedTasks w t last)
@@ -151,12 +166,12 @@ module _ (w : List ℕ) (F : Formed w) where
 
   -- the last of the accesses that write g, of which there is one
   access-wrote : (t a : ℕ) (last : List ℕ) → t < tasksOf w → a < accessesOf w t → isWritten w t a ≡ true → regionAt w t a < length last
-      → getD (notedTask w t last) (regionAt w t a) 0 ≡ baseOf w t + 16 * a
+      → getD (notedTask w t last) (regionAt w t a) 0 ≡ baseOf w t + 65536 * a
   access-wrote t a last l k e m =
       let u = F .used t l in
       let within : (b : ℕ) → b < accessesOf w t → b < 8 = λ b j. omega (arith, u .accesses-most) in
       let z = row-region w t a (within a k) in
-      subst (λ (g : ℕ). getD (notedTask w t last) g 0 ≡ baseOf w t + 16 * a) z
+      subst (λ (g : ℕ). getD (notedTask w t last) g 0 ≡ baseOf w t + 65536 * a) z
       (noted-wrote (rowOf w t) (baseOf w t) (accessesOf w t) last a k (row-writes w t a (within a k) ∙ e) (subst (λ (g : ℕ). g < length last) (sym z) m)
       (λ b j y. u .apart b a j k (sym (row-region w t b (within b j)) ∙ (y ∙ z))))
 
@@ -177,7 +192,7 @@ module _ (w : List ℕ) (F : Formed w) where
             writes = e;
             region = z;
             same =
-                subst (λ (x : ℕ). getD (notedTask w t last) x 0 ≡ baseOf w t + 16 * a) z
+                subst (λ (x : ℕ). getD (notedTask w t last) x 0 ≡ baseOf w t + 65536 * a) z
                 (access-wrote t a last l k e (subst (λ (x : ℕ). x < length last) (sym z) m));
           }
 

@@ -3,13 +3,17 @@ pub mod Rest
 pub mod Naming
 pub mod Scanning
 pub mod Agrees
+pub mod Places
 pub mod Rows
 pub mod Last
+pub mod FlagsOf
 pub mod Marks
 pub mod Flags
 pub mod Tally
+pub mod Masks
 pub mod Found
 pub mod Trace
 pub mod Bound
 pub mod Answers
+pub mod Finding
 pub mod Zeros

@@ -1,50 +1,18 @@
 -- The turns of the loops that set flags: -none, -more and -done are a loop's, before its first turn, over a turn, and after its last.
-use Prim.Native.Nat.{ℕ, _+_, _%_, _≤_, _<_}
-use mathlib.Core.Path.{_≡_, refl, sym, _∙_, ap}
-use mathlib.Core.Bool.{Bool, true, false, cond, not, _&&_, and-eq-true-iff}
+use Prim.Native.Nat.{ℕ, _+_, _*_, _/_, _≤_, _<_}
+use mathlib.Core.Path.{_≡_, refl}
+use mathlib.Core.Bool.{Bool, true, false}
 use mathlib.Core.List.{List}
-use native.Mathlib.Decide.{ℕ-discrete}
-use native.Mathlib.Nat.{add-zero}
 use native.Mathlib.Numerals.{add-one}
 use native.Mathlib.Omega.{arith}
-use borrow.Author.Tests.{leb-true}
-use lib.Dec.{eqb, leb}
-use lib.ListN.{length, getD, set}
-use lib.Seq.{getD-set-same, getD-set-other}
-use Rattle.finite.proofs.Below.{count-le, count-ext, count-suc}
-use Rattle.plan.specs.Search.{readsIn, regionIn, Apart, Sources, noted, notedTasks, claims, flagOf, claimed, marked, markedTask, markedTasks, ones}
+use lib.ListN.{getD, set}
+use Rattle.plan.specs.Search.{readsIn, regionIn, Apart, Sources, noted, notedTasks, claims, claimed, marked, markedTask, markedTasks}
 use Rattle.plan.proofs.Last.{noted-own}
-
--- ones
-
-pub ones-most : (flags : List ℕ) → ones flags ≤ 16384
-unfolding ones
-ones-most flags = count-le (λ k. not (eqb (getD flags k 0) 0)) 16384
-
--- a flag that was not set counts one more
-ones-set : (flags : List ℕ) (k : ℕ) → k < 16384 → length flags ≡ 16384 → ones (set flags k 1) ≡ ones flags + cond (eqb (getD flags k 0) 0) 1 0
-unfolding ones
-ones-set flags k l size = by (eqb (getD flags k 0) 0) refl
-  where
-    other : (j : ℕ) → (j ≡ k → ⊥) → not (eqb (getD (set flags k 1) j 0) 0) ≡ not (eqb (getD flags j 0) 0)
-    other j m = rw (getD-set-other flags k j 1 0 m)
-
-    same : not (eqb (getD (set flags k 1) k 0) 0) ≡ true
-    same = rw (getD-set-same flags k 1 0 (omega arith))
-
-    by : (b : Bool) → eqb (getD flags k 0) 0 ≡ b → ones (set flags k 1) ≡ ones flags + cond b 1 0
-    by true e = count-suc 16384 (λ j. not (eqb (getD flags j 0) 0)) (λ j. not (eqb (getD (set flags k 1) j 0) 0)) k l (rw e) same other ∙ sym (add-one (ones flags))
-    by false e = count-ext 16384 (λ j. not (eqb (getD (set flags k 1) j 0) 0)) (λ j. not (eqb (getD flags j 0) 0)) (λ j _. elim (ℕ-discrete j k) [ yes z ↦ rw z (same ∙ sym (ap not e)) | no z ↦ other j z ]) ∙ sym (add-zero (ones flags))
-
-pub ones-raise : (flags : List ℕ) (k r : ℕ) → k < 16384 → length flags ≡ 16384 → r ≡ cond (eqb (getD flags k 0) 0) 1 0 → ones (set flags k 1) ≡ ones flags + r
-ones-raise flags k r l size e = rw e (ones-set flags k l size)
 
 -- claimed
 
-pub claims-least : (reads : Bool) (source q : ℕ) → claims reads source q ≡ true → 16 ≤ source
-claims-least reads source q h = leb-true _ _ (and-eq-true-iff (leb 16 source) (not (eqb (source % 16) q)) .0 (and-eq-true-iff reads (leb 16 source && not (eqb (source % 16) q)) .0 h .1) .0)
-
-pub claimed-yes : (reads : Bool) (source q k : ℕ) (flags xs : List ℕ) → claims reads source q ≡ true → k ≡ flagOf source q → xs ≡ set flags k 1 → xs ≡ claimed reads source q flags
+pub claimed-yes : (reads : Bool) (source q k : ℕ) (flags xs : List ℕ) → claims reads source q ≡ true → k ≡ source / 65536 → xs ≡ set flags (16 * k + q) 1
+    → xs ≡ claimed reads source q flags
 unfolding claimed
 claimed-yes reads source q k flags xs h e f = rw (h, f, e)
 
@@ -68,7 +36,7 @@ pub marked-done : (row last : List ℕ) (q n a : ℕ) (flags xs : List ℕ) → 
 marked-done row last q n a flags xs h p r = let e : n ≡ a = omega arith in rw e h
 
 -- the number that the turn reads
-pub source-below : (row last xs : List ℕ) (base n a g : ℕ) → Sources last → Apart row n → a < n → xs ≡ noted row base a last → g ≡ regionIn row a → getD xs g 0 < 16400
+pub source-below : (row last xs : List ℕ) (base n a g : ℕ) → Sources last → Apart row n → a < n → xs ≡ noted row base a last → g ≡ regionIn row a → getD xs g 0 < 67108864
 source-below row last xs base n a g s h l e z = rw (z, noted-own row base n a last xs h l e) (s .each (regionIn row a))
 
 -- of a row and a number that are known otherwise

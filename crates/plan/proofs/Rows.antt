@@ -3,6 +3,7 @@ use Prim.Native.Nat.{ℕ, _+_, _/_, _%_, _≤_, _<_}
 use mathlib.Core.Path.{_≡_, refl, sym, _∙_, ap}
 use mathlib.Core.Bool.{true, not}
 use mathlib.Core.List.{List, []}
+use native.Mathlib.Decide.{decLt}
 use native.Mathlib.Omega.{arith}
 use lib.Dec.{eqb}
 use lib.ListN.{length, getD, set}
@@ -11,7 +12,7 @@ use Rattle.finite.specs.Lists.{tabulate}
 use Rattle.finite.proofs.Lists.{tabulate-more, getD-tabulate}
 use Rattle.plan.specs.Layout.{tasksOf, accessesOf, accessAt, regionAt, isWritten}
 use Rattle.plan.specs.Form.{wordsOk}
-use Rattle.plan.specs.Search.{rowOf, writesIn, regionIn, Rows, Laid, Apart, Ready}
+use Rattle.plan.specs.Search.{rowOf, Narrow, writesIn, regionIn, Rows, Laid, Apart, Ready}
 use Rattle.plan.proofs.Facts.{formed}
 
 -- the words of a row
@@ -23,6 +24,22 @@ row-writes w t a l = ap (λ (x : ℕ). not (eqb (x / 128) 0)) (row-at w t a l)
 
 pub row-region : (w : List ℕ) (t a : ℕ) → a < 8 → regionIn (rowOf w t) a ≡ regionAt w t a
 row-region w t a l = ap (λ (x : ℕ). x % 128) (row-at w t a l)
+
+-- they fit 16 bits
+pub narrow : (w : List ℕ) (n t : ℕ) → 1668 ≤ length w → wordsOk w ≡ true → n ≡ tasksOf w → t < n → Narrow w t
+narrow w n t long ok e l =
+    let f = formed w ok in
+    let u = f .used t (omega arith) in
+    record {
+      long = long;
+      below = omega (arith, f .tasks-most);
+      fits =
+          λ a m.
+          elim (decLt a (accessesOf w t)) [
+            | yes k ↦ omega (arith, u .access-below a k)
+            | no k ↦ omega (arith, u .rest-zero a (omega arith) m)
+          ];
+    }
 
 -- the table: -none and -more are those of the loop that fills it
 
@@ -58,6 +75,7 @@ ready w table n t h l m =
       accesses-most = u .accesses-most;
       row = row;
       apart = λ a b k m e. u .apart a b k m (sym (region a k) ∙ (e ∙ region b m));
+      rest = λ a k m. ap (λ (r : List ℕ). getD r a 0) row ∙ (row-at w t a m ∙ u .rest-zero a k m);
     }
 
 -- of a number that is known otherwise

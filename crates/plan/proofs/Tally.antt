@@ -6,25 +6,21 @@ use mathlib.Core.List.{List}
 use native.Mathlib.Omega.{arith}
 use borrow.Author.Tests.{lt-ltb, le-ltb}
 use lib.Dec.{eqb}
-use lib.ListN.{length, getD, replicate, getD-replicate}
+use lib.ListN.{length, getD}
 use Rattle.finite.specs.Below.{countBelow, sumBelow}
 use Rattle.finite.specs.Lists.{gather}
 use Rattle.finite.proofs.Below.{sum-ext, sum-const, sum-beyond, count-ext, count-beyond, count-never, count-split}
 use Rattle.finite.proofs.Lists.{getD-tabulate, length-gather, length-flatMap-range, length-flatMap-gather}
 use Rattle.body.specs.Transfers.{transfer, transferred, transfersOf, transferCount}
 use Rattle.plan.specs.Layout.{ranksOf, tasksOf, accessesOf, regionAt, isWritten, bodyOf}
-use Rattle.plan.specs.Wanted.{wantedAt, wantedFlags}
-use Rattle.plan.specs.Search.{perFlag, ones}
+use Rattle.plan.specs.Wanted.{wantedAt}
+use Rattle.plan.specs.Search.{perFlag, wantedFlags, ones}
 use Rattle.plan.proofs.Facts.{Formed}
 use Rattle.plan.proofs.Flags.{perFlag-at}
 
 flag-holds : (b : Bool) → not (eqb (cond b 1 0) 0) ≡ b
 flag-holds true = refl
 flag-holds false = refl
-
-pub ones-none : ones (replicate 16384 0) ≡ 0
-unfolding ones
-ones-none = count-never 16384 (λ k. not (eqb (getD {A = ℕ} (replicate 16384 0) k 0) 0)) (λ k l. rw (getD-replicate {A = ℕ} 16384 k 0 0 l))
 
 module _ (w : List ℕ) (F : Formed w) where
   pub ones-flags : ones (wantedFlags w) ≡ countBelow 16384 (perFlag (wantedAt w))

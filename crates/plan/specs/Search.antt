@@ -1,19 +1,26 @@
 -- The states of the transfer search, step by step. They are the search's own, for the contracts of its private functions: nothing
 -- that a reader must believe.
-use Prim.Native.Nat.{ℕ, zero, suc, _+_, _-_, _*_, _/_, _%_, _≤_, _<_}
+use Prim.Native.Nat.{ℕ, zero, suc, _+_, _-_, _*_, _/_, _%_, _^_, _≤_, _<_}
 use mathlib.Core.Path.{_≡_}
 use mathlib.Core.Bool.{Bool, true, cond, not, _&&_}
 use mathlib.Core.List.{List, []}
-use lib.Dec.{eqb, leb}
+use lib.Dec.{eqb}
 use lib.ListN.{length, getD, take, set}
 use Rattle.finite.specs.Below.{countBelow}
 use Rattle.finite.specs.Lists.{tabulate}
 use Rattle.plan.specs.Layout.{tasksOf, rankOf, accessesOf, accessAt}
 use Rattle.plan.specs.Form.{wordsOk}
+use Rattle.plan.specs.Wanted.{wantedAt}
 
 -- a row: the eight access words of a task
 abbrev pub rowOf : List ℕ → ℕ → List ℕ
 rowOf w t = tabulate 8 (accessAt w t)
+
+-- the words of a row are there, and fit 16 bits
+pub record Narrow (w : List ℕ) (t : ℕ) : Type 0 where
+  pub long : 1668 ≤ length w
+  pub below : t < 128
+  pub fits : (a : ℕ) → a < 8 → accessAt w t a < 65536
 
 -- access a of a row: whether it reads and writes, and its region
 abbrev pub readsIn : List ℕ → ℕ → Bool
@@ -39,7 +46,8 @@ pub record Laid (w : List ℕ) (table : List (List ℕ)) : Type 0 where
   pub ok : wordsOk w ≡ true
   pub rows : Rows w (tasksOf w) table
 
--- task t can be looked at: the words are there, its rank and number of accesses within the limits, its row in the table
+-- task t can be looked at: the words are there, its rank and number of accesses within the limits, its row in the table, with zeros
+-- behind its accesses
 pub record Ready (w : List ℕ) (table : List (List ℕ)) (t : ℕ) : Type 0 where
   pub long : 1668 ≤ length w
   pub below : t < 128
@@ -47,22 +55,23 @@ pub record Ready (w : List ℕ) (table : List (List ℕ)) (t : ℕ) : Type 0 whe
   pub accesses-most : accessesOf w t ≤ 8
   pub row : getD table t [] ≡ rowOf w t
   pub apart : Apart (getD table t []) (accessesOf w t)
+  pub rest : (a : ℕ) → accessesOf w t ≤ a → a < 8 → getD (getD table t []) a 0 ≡ 0
 
--- what the number of an access of task i starts from. `last` has a number for each region: 0, or 16 + 128 i + 16 a + the rank of i
--- where access a of task i wrote it last
+-- what the number of an access of task i starts from. `last` has a number for each region: 0, or 65536 (8 i + a) + 2 ^ q for each rank
+-- q but that of i, where access a of task i wrote it last
 abbrev pub baseOf : List ℕ → ℕ → ℕ
-baseOf w i = 16 + 128 * i + rankOf w i
+baseOf w i = 524288 * i + (65535 - 2 ^ rankOf w i)
 
 -- such numbers
 pub record Sources (last : List ℕ) : Type 0 where
   pub size : length last ≡ 128
-  pub each : (g : ℕ) → getD last g 0 < 16400
+  pub each : (g : ℕ) → getD last g 0 < 67108864
 
 -- last, after the writes of the first n accesses of a row
 unfoldable pub noted : List ℕ → ℕ → ℕ → List ℕ → List ℕ
 noted row base zero last = last
 noted row base (suc a) last =
-    cond (writesIn row a) (set (noted row base a last) (regionIn row a) (base + 16 * a)) (noted row base a last)
+    cond (writesIn row a) (set (noted row base a last) (regionIn row a) (base + 65536 * a)) (noted row base a last)
 
 -- last, after the writes of task t
 abbrev pub notedTask : List ℕ → ℕ → List ℕ → List ℕ
@@ -75,11 +84,11 @@ notedTasks w (suc t) last = notedTask w t (notedTasks w t last)
 
 -- rank q wants the word of the access that the source names: there is one, of another rank
 abbrev pub claims : Bool → ℕ → ℕ → Bool
-claims reads source q = reads && (leb 16 source && not (eqb (source % 16) q))
+claims reads source q = reads && eqb (source / 2 ^ q % 2) 1
 
 -- the flag of that access and rank
 abbrev pub flagOf : ℕ → ℕ → ℕ
-flagOf source q = source / 16 * 16 + q - 16
+flagOf source q = 16 * (source / 65536) + q
 
 -- the flags, after a read by rank q
 unfoldable pub claimed : Bool → ℕ → ℕ → List ℕ → List ℕ
@@ -103,10 +112,19 @@ markedTasks w last (suc t) flags = markedTask w (notedTasks w t last) t (markedT
 abbrev pub perFlag : (ℕ → ℕ → ℕ → Bool) → ℕ → Bool
 perFlag p k = p (k / 128) (k / 16 % 8) (k % 16)
 
+-- the flags of a plan's transfers: 1 where the access and the rank are wanted, at 128 i + 16 a + q
+abbrev pub wantedFlags : List ℕ → List ℕ
+wantedFlags w = tabulate 16384 (λ k. cond (perFlag (wantedAt w) k) 1 0)
+
 -- how many flags are set
 unfoldable pub ones : List ℕ → ℕ
 ones flags = countBelow 16384 (λ k. not (eqb (getD flags k 0) 0))
 
--- the flags became others, of which r more are set
-abbrev pub Raised : List ℕ → List ℕ → ℕ → Type 0
-Raised flags more r = ones more ≡ ones flags + r
+-- the flags that masks hold: flag 16 k + q is bit q of mask k
+unfoldable pub flagsOf : List ℕ → List ℕ
+flagsOf masks = tabulate 16384 (λ k. getD masks (k / 16) 0 / 2 ^ (k % 16) % 2)
+
+-- masks that hold so many set flags
+pub record Tallied (masks : List ℕ) (total : ℕ) : Type 0 where
+  pub size : length masks ≡ 1024
+  pub count : total ≡ ones (flagsOf masks)

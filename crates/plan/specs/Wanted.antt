@@ -1,8 +1,9 @@
 -- The ranks that want what an access writes (paper 01, "Transfers and items").
-use Prim.Native.Nat.{ℕ, _/_, _%_}
+use Prim.Native.Nat.{ℕ, _/_, _%_, _^_}
 use mathlib.Core.Bool.{Bool, cond, _&&_}
 use mathlib.Core.List.{List}
 use lib.Dec.{ltb}
+use Rattle.finite.specs.Below.{sumBelow}
 use Rattle.finite.specs.Lists.{tabulate}
 use Rattle.body.specs.Transfers.{transferred}
 use Rattle.plan.specs.Layout.{ranksOf, tasksOf, accessesOf, regionAt, isWritten, bodyOf}
@@ -16,6 +17,10 @@ module _ (w : List ℕ) where
       && (isWritten w i a
       && (ltb q (ranksOf w) && transferred (bodyOf w) i (regionAt w i a) q)))
 
-  -- 1 where it is wanted, at 128 i + 16 a + q
-  abbrev pub wantedFlags : List ℕ
-  wantedFlags = tabulate 16384 (λ k. cond (wantedAt (k / 128) (k / 16 % 8) (k % 16)) 1 0)
+  -- the ranks that want what access a of task i writes: 2 ^ q for each such rank q
+  abbrev pub maskAt : ℕ → ℕ → ℕ
+  maskAt i a = sumBelow 16 (λ q. cond (wantedAt i a q) (2 ^ q) 0)
+
+  -- at 8 i + a
+  abbrev pub wantedMasks : List ℕ
+  wantedMasks = tabulate 1024 (λ k. maskAt (k / 8) (k % 8))

@@ -1,30 +1,63 @@
-// The search for a plan's transfers: their number, and for each access that writes the ranks that want its word. The plan's words are in
-// form but for the number of transfers.
+// The search for a plan's transfers: their number, and for each access that writes a mask of the ranks that want its word. The plan's
+// words are in form but for the number of transfers.
 
-ghost use Prim.Native.Nat.{_≤_, _<_};
+ghost use Prim.Native.Nat.{_+_, _-_, _*_, _%_, _^_, _≤_, _<_};
 ghost use mathlib.Core.Path.{_≡_};
 ghost use mathlib.Core.Bool.{cond, true};
 ghost use lib.ListN.{length, set, replicate};
 ghost use Rattle.body.specs.Transfers.{transferCount};
-ghost use Rattle.plan.specs.Layout.{tasksOf, bodyOf};
+ghost use Rattle.plan.specs.Layout.{tasksOf, accessesOf, bodyOf};
 ghost use Rattle.plan.specs.Form.{wordsOk};
-ghost use Rattle.plan.specs.Wanted.{wantedFlags};
-ghost use Rattle.plan.specs.Search.{rowOf, Laid, Apart, Ready, Sources, noted, notedTask, notedTasks, claimed, marked, markedTask, markedTasks, Raised};
+ghost use Rattle.plan.specs.Wanted.{wantedMasks};
+ghost use Rattle.plan.specs.Search.{rowOf, Narrow, Laid, Apart, Ready, Sources, noted, notedTask, notedTasks, claimed, marked, markedTask, markedTasks, flagsOf, Tallied};
 use crate::numbers::as_index;
-use crate::numbers::one_if;
+use crate::numbers::as_narrow;
+use crate::numbers::as_wide;
 
 // The access words of task t.
-fn row_of(plan: &[u64], t: usize) -> [u64; 8]
-    requires { ⌜ (1668 ≤ length (now plan)) × (t < 128) ⌝ }
+fn row_of(plan: &[u64], t: usize) -> [u16; 8]
+    requires { ⌜ Narrow (now plan) t ⌝ }
     ensures { λ r. ⌜ r ≡ rowOf (now (plan .entry)) t ⌝ }
 {
-    let mut row = [0u64; 8];
+    let mut row = [0u16; 8];
     let mut a: usize = 0;
     while a < 8 {
-        row[a] = plan[136 + 12 * t + a];
+        row[a] = as_narrow(plan[136 + 12 * t + a]);
         a += 1;
     }
     row
+}
+
+// How many accesses task t has. That they are at most 8 is said again for the compiler, which then unrolls the loop over them.
+fn count_of(plan: &[u64], t: usize) -> usize
+    requires { ⌜ (1668 ≤ length (now plan)) × (t < 128) × (accessesOf (now plan) t ≤ 8) ⌝ }
+    ensures { λ r. ⌜ r ≡ accessesOf (now (plan .entry)) t ⌝ }
+{
+    let count = as_index(plan[135 + 12 * t]);
+    if count < 8 { count } else { 8 }
+}
+
+// The region of an access.
+fn region_of(word: u16) -> usize
+    ensures { λ r. ⌜ (r ≡ word % 128) × (r < 128) ⌝ }
+{
+    (word % 128) as usize
+}
+
+// The bit of a rank.
+fn bit_of(rank: u64) -> u64
+    requires { ⌜ rank < 16 ⌝ }
+    ensures { λ r. ⌜ (r ≡ 2 ^ rank) × (r ≤ 32768) ⌝ }
+{
+    1 << rank
+}
+
+// What the number of an access of task t on this rank starts from.
+fn base_of(t: usize, rank: u64) -> u64
+    requires { ⌜ (t < 128) × (rank < 16) ⌝ }
+    ensures { λ r. ⌜ (r ≡ 524288 * t + (65535 - 2 ^ rank)) × (r < 67108864) ⌝ }
+{
+    (524288 * (t as u64)) | (65535 ^ bit_of(rank))
 }
 
 // The word goes to `at` where `yes` holds.
@@ -37,36 +70,35 @@ fn put_if(words: &mut [u64], at: usize, word: u64, yes: bool)
     }
 }
 
-// Notes the writes of a task's first `count` accesses.
-fn note_row(row: &[u64; 8], count: usize, base: u64, last: &mut [u64])
-    requires { ⌜ (count ≤ 8) × (base < 16400) × (length (now last) ≡ 128) ⌝ }
-    ensures { λ _. ⌜ now (last .exit) ≡ noted (now (row .entry)) base count (now (last .entry)) ⌝ }
+// Notes the writes of a row's accesses.
+fn note_row(row: &[u16; 8], base: u64, last: &mut [u64])
+    requires { ⌜ (base < 67108864) × (length (now last) ≡ 128) ⌝ }
+    ensures { λ _. ⌜ now (last .exit) ≡ noted (now (row .entry)) base 8 (now (last .entry)) ⌝ }
 {
     let mut a: usize = 0;
-    while a < count {
+    while a < 8 {
         let word = row[a];
         put_if(
             last,
-            as_index(word % 128),
-            base + 16 * (a as u64),
+            region_of(word),
+            base + 65536 * (a as u64),
             !(word / 128 == 0),
         );
         a += 1;
     }
 }
 
-// Notes the writes of task t.
-fn note_task(plan: &[u64], table: &[[u64; 8]; 128], t: usize, last: &mut [u64])
+// Notes the writes of task t. What its row has behind its accesses writes nothing.
+fn note_task(plan: &[u64], table: &[[u16; 8]; 128], t: usize, last: &mut [u64])
     requires { ⌜ Ready (now plan) (now table) t × (length (now last) ≡ 128) ⌝ }
     ensures { λ _. ⌜ now (last .exit) ≡ notedTask (now (plan .entry)) t (now (last .entry)) ⌝ }
 {
     let rank = plan[132 + 12 * t];
-    let count = as_index(plan[135 + 12 * t]);
-    note_row(&table[t], count, 16 + 128 * (t as u64) + rank, last);
+    note_row(&table[t], base_of(t, rank), last);
 }
 
 // Notes the writes of the first n tasks.
-fn note_tasks(plan: &[u64], table: &[[u64; 8]; 128], n: usize, last: &mut [u64])
+fn note_tasks(plan: &[u64], table: &[[u16; 8]; 128], n: usize, last: &mut [u64])
     requires { ⌜ Laid (now plan) (now table) × (n ≤ tasksOf (now plan)) × (length (now last) ≡ 128) ⌝ }
     ensures { λ _. ⌜ now (last .exit) ≡ notedTasks (now (plan .entry)) n (now (last .entry)) ⌝ }
 {
@@ -77,129 +109,135 @@ fn note_tasks(plan: &[u64], table: &[[u64; 8]; 128], n: usize, last: &mut [u64])
     }
 }
 
-// Sets a flag, and answers 1 where it was not set.
-fn raise(wanted: &mut [u8], at: usize) -> u64
-    requires { ⌜ (at < 16384) × (length (now wanted) ≡ 16384) ⌝ }
+// Sets the bit of a rank in the mask at `at`. `total` flags are set before; answers how many are then.
+fn raise(wanted: &mut [u16], at: usize, rank: u64, total: u64) -> u64
+    requires { ⌜ (at < 1024) × (rank < 16) × Tallied (now wanted) total ⌝ }
     ensures { λ r. ⌜
-        (now (wanted .exit) ≡ set (now (wanted .entry)) at 1)
-        × Raised (now (wanted .entry)) (now (wanted .exit)) r
+        (flagsOf (now (wanted .exit)) ≡ set (flagsOf (now (wanted .entry))) (16 * at + rank) 1)
+        × Tallied (now (wanted .exit)) r
         ⌝ }
 {
-    let fresh = wanted[at] == 0;
-    wanted[at] = 1;
-    one_if(fresh)
-}
-
-// Sets the flag of a read by a rank of the word that `source` names, and answers 1 where it was not set.
-fn claim(reads: bool, source: u64, rank: u64, wanted: &mut [u8]) -> u64
-    requires { ⌜ (source < 16400) × (rank < 16) × (length (now wanted) ≡ 16384) ⌝ }
-    ensures { λ r. ⌜
-        (now (wanted .exit) ≡ claimed reads source rank (now (wanted .entry)))
-        × Raised (now (wanted .entry)) (now (wanted .exit)) r
-        ⌝ }
-{
-    if reads & ((16 <= source) & !(source % 16 == rank)) {
-        raise(wanted, as_index(source / 16 * 16 + rank - 16))
+    let mask = as_wide(wanted[at]);
+    if (mask >> rank) % 2 == 0 {
+        wanted[at] = as_narrow(mask + bit_of(rank));
+        total + 1
     } else {
-        0
+        total
     }
 }
 
-// Sets the flags of the reads among a task's first `count` accesses, notes their writes, and answers how many flags were not set.
+// Sets the flag of a read by a rank of the word that `source` names, and answers how many are set then.
+fn claim(reads: bool, source: u64, rank: u64, wanted: &mut [u16], total: u64) -> u64
+    requires { ⌜ (source < 67108864) × (rank < 16) × Tallied (now wanted) total ⌝ }
+    ensures { λ r. ⌜
+        (flagsOf (now (wanted .exit)) ≡ claimed reads source rank (flagsOf (now (wanted .entry))))
+        × Tallied (now (wanted .exit)) r
+        ⌝ }
+{
+    if reads & ((source >> rank) % 2 == 1) {
+        raise(wanted, as_index(source / 65536), rank, total)
+    } else {
+        total
+    }
+}
+
+// Sets the flags of the reads among a task's first `count` accesses, notes their writes, and answers how many flags are set then.
 // No two accesses have one region, so each read finds the writer before the task.
 fn visit_row(
-    row: &[u64; 8],
+    row: &[u16; 8],
     count: usize,
     rank: u64,
     base: u64,
     last: &mut [u64],
-    wanted: &mut [u8],
+    wanted: &mut [u16],
+    before: u64,
 ) -> u64
     requires { ⌜
-        (count ≤ 8) × (rank < 16) × (base < 16400) × Apart (now row) count × Sources (now last) × (length (now wanted) ≡ 16384)
+        (count ≤ 8) × (rank < 16) × (base < 67108864) × Apart (now row) count × Sources (now last) × Tallied (now wanted) before
         ⌝ }
     ensures { λ r. ⌜
         (now (last .exit) ≡ noted (now (row .entry)) base count (now (last .entry)))
-        × (now (wanted .exit) ≡ marked (now (row .entry)) (now (last .entry)) rank count (now (wanted .entry)))
-        × Raised (now (wanted .entry)) (now (wanted .exit)) r
+        × (flagsOf (now (wanted .exit)) ≡ marked (now (row .entry)) (now (last .entry)) rank count (flagsOf (now (wanted .entry))))
+        × Tallied (now (wanted .exit)) r
         ⌝ }
 {
-    let mut total: u64 = 0;
+    let mut total = before;
     let mut a: usize = 0;
     while a < count {
         let word = row[a];
-        let region = as_index(word % 128);
+        let region = region_of(word);
         let source = last[region];
-        total += claim(!(word / 128 == 1), source, rank, wanted);
-        put_if(last, region, base + 16 * (a as u64), !(word / 128 == 0));
+        total = claim(!(word / 128 == 1), source, rank, wanted, total);
+        put_if(last, region, base + 65536 * (a as u64), !(word / 128 == 0));
         a += 1;
     }
     total
 }
 
-// Sets the flags of the reads of task t, notes its writes, and answers how many flags were not set.
+// Sets the flags of the reads of task t, notes its writes, and answers how many flags are set then.
 fn visit_task(
     plan: &[u64],
-    table: &[[u64; 8]; 128],
+    table: &[[u16; 8]; 128],
     t: usize,
     last: &mut [u64],
-    wanted: &mut [u8],
+    wanted: &mut [u16],
+    before: u64,
 ) -> u64
-    requires { ⌜ Ready (now plan) (now table) t × Sources (now last) × (length (now wanted) ≡ 16384) ⌝ }
+    requires { ⌜ Ready (now plan) (now table) t × Sources (now last) × Tallied (now wanted) before ⌝ }
     ensures { λ r. ⌜
         (now (last .exit) ≡ notedTask (now (plan .entry)) t (now (last .entry)))
-        × (now (wanted .exit) ≡ markedTask (now (plan .entry)) (now (last .entry)) t (now (wanted .entry)))
-        × Raised (now (wanted .entry)) (now (wanted .exit)) r
+        × (flagsOf (now (wanted .exit)) ≡ markedTask (now (plan .entry)) (now (last .entry)) t (flagsOf (now (wanted .entry))))
+        × Tallied (now (wanted .exit)) r
         ⌝ }
 {
     let rank = plan[132 + 12 * t];
-    let count = as_index(plan[135 + 12 * t]);
     visit_row(
         &table[t],
-        count,
+        count_of(plan, t),
         rank,
-        16 + 128 * (t as u64) + rank,
+        base_of(t, rank),
         last,
         wanted,
+        before,
     )
 }
 
-// The same of the first n tasks, in body order.
+// The same of the first n tasks, in body order, where no flag is set before.
 fn visit_tasks(
     plan: &[u64],
-    table: &[[u64; 8]; 128],
+    table: &[[u16; 8]; 128],
     n: usize,
     last: &mut [u64],
-    wanted: &mut [u8],
+    wanted: &mut [u16],
 ) -> u64
     requires { ⌜
-        Laid (now plan) (now table) × (n ≤ tasksOf (now plan)) × Sources (now last) × (length (now wanted) ≡ 16384)
+        Laid (now plan) (now table) × (n ≤ tasksOf (now plan)) × Sources (now last) × Tallied (now wanted) 0
         ⌝ }
     ensures { λ r. ⌜
         (now (last .exit) ≡ notedTasks (now (plan .entry)) n (now (last .entry)))
-        × (now (wanted .exit) ≡ markedTasks (now (plan .entry)) (now (last .entry)) n (now (wanted .entry)))
-        × Raised (now (wanted .entry)) (now (wanted .exit)) r
+        × (flagsOf (now (wanted .exit)) ≡ markedTasks (now (plan .entry)) (now (last .entry)) n (flagsOf (now (wanted .entry))))
+        × Tallied (now (wanted .exit)) r
         ⌝ }
 {
     let mut total: u64 = 0;
     let mut t: usize = 0;
     while t < n {
-        total += visit_task(plan, table, t, last, wanted);
+        total = visit_task(plan, table, t, last, wanted, total);
         t += 1;
     }
     total
 }
 
-// The number of transfers, and a flag set for each access that writes and rank that wants its word. A first pass notes the body's
-// last writers, which are the sources of the reads ahead of their writers; the second finds the source of every read.
-fn find_transfers(plan: &[u64], wanted: &mut [u8]) -> u64
-    requires { ⌜ (1668 ≤ length (now plan)) × (wordsOk (now plan) ≡ true) × (now wanted ≡ replicate 16384 0) ⌝ }
+// The number of transfers, and the masks of the ranks that want what each access writes. A first pass notes the body's last
+// writers, which are the sources of the reads ahead of their writers; the second finds the source of every read.
+pub(crate) fn find_transfers(plan: &[u64], wanted: &mut [u16]) -> u64
+    requires { ⌜ (1668 ≤ length (now plan)) × (wordsOk (now plan) ≡ true) × (now wanted ≡ replicate 1024 0) ⌝ }
     ensures { λ r. ⌜
-        (r ≡ transferCount (bodyOf (now (plan .entry)))) × (now (wanted .exit) ≡ wantedFlags (now (plan .entry)))
+        (r ≡ transferCount (bodyOf (now (plan .entry)))) × (now (wanted .exit) ≡ wantedMasks (now (plan .entry)))
         ⌝ }
 {
     let tasks = as_index(plan[3]);
-    let mut table = [[0u64; 8]; 128];
+    let mut table = [[0u16; 8]; 128];
     let mut t: usize = 0;
     while t < tasks {
         let row = row_of(plan, t);
@@ -216,6 +254,6 @@ pub(crate) fn transfer_count(plan: &[u64]) -> u64
     requires { ⌜ (1668 ≤ length (now plan)) × (wordsOk (now plan) ≡ true) ⌝ }
     ensures { λ r. ⌜ r ≡ transferCount (bodyOf (now (plan .entry))) ⌝ }
 {
-    let mut wanted = [0u8; 16384];
+    let mut wanted = [0u16; 1024];
     find_transfers(plan, &mut wanted)
 }

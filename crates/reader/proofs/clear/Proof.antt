@@ -1,11 +1,11 @@
-use Prim.Native.Nat.{_-_, _≤_, _<_}
-use mathlib.Core.Path.{_≡_, _∙_}
-use mathlib.Core.List.{_++_, append-nil}
+use Prim.Native.Nat.{_-_, _≤_}
+use mathlib.Core.Path.{_≡_}
+use mathlib.Core.List.{_++_}
 use native.Mathlib.Omega.{arith}
 use borrow.Author.Needs.{needs}
-use borrow.Author.Fill.{fill-more}
 use denote.Ref.{now}
-use lib.ListN.{length, drop, replicate, length-set, drop-of-length-le}
+use lib.ListN.{length, drop, replicate, length-set}
+use Rattle.finite.proofs.Lists.{replicate-more, replicate-done}
 use Rattle.reader.proofs.clear.Statement.{statement}
 use Rattle.reader.proofs.clear.Tie as tie
 
@@ -33,8 +33,7 @@ loop-less c = search needs
 loop-again : tie.Need-loop-again Inv-loop μ-loop
 loop-again c =
     let a = c .before in
-    let h : a .loop .i < length (now (a .before .args .words)) = omega arith in
-    (search needs, simp length-set (search needs), rw (a .loop .inv .2) (fill-more (a .loop .i) 0 (now (a .before .args .words)) h))
+    (search needs, simp length-set (search needs), replicate-more 0 (a .loop .i) (now (a .before .args .words)) (a .loop .words) (a .loop .inv .2) (omega arith))
 
 same-length : tie.Need-same-length Inv-loop μ-loop
 same-length c = search needs
@@ -42,10 +41,7 @@ same-length c = search needs
 returns : tie.Need-returns Inv-loop μ-loop
 returns c =
     let a = c .before in
-    let l = now (a .before .args .words) in
-    let h : length l ≤ a .loop .i = omega arith in
-    let e : a .loop .i ≡ length l = omega arith in
-    a .loop .inv .2 ∙ rw (drop-of-length-le l h, append-nil, e)
+    replicate-done 0 (a .loop .i) (now (a .before .args .words)) (a .loop .words) (a .loop .inv .2) (omega arith) (omega arith)
 
 pub clear-spec : {M : Type 1} → statement M
 clear-spec =

@@ -1,11 +1,12 @@
-use Prim.Native.Nat.{_≤_, _-_}
+use Prim.Native.Nat.{ℕ, _≤_, _<_, _-_}
 use mathlib.Core.Path.{_≡_}
 use native.Mathlib.Nat.{le-of-eq}
 use borrow.Author.Needs.{needs}
-use lib.ListN.{length}
+use lib.ListN.{length, getD}
 use Rattle.plan.specs.Search.{Rows}
-use Rattle.plan.proofs.Rows.{rows-none, rows-more, laid}
-use Rattle.plan.proofs.Found.{tasks-few, no-flags, sources-head, found-flags, found-count}
+use Rattle.plan.proofs.Rows.{narrow, rows-none, rows-more, laid}
+use Rattle.plan.proofs.FlagsOf.{tallied-none}
+use Rattle.plan.proofs.Found.{tasks-few, sources-head, found-count, found-masks}
 use Rattle.plan.proofs.transfers.find_transfers.Statement.{statement}
 use Rattle.plan.proofs.transfers.find_transfers.Tie as tie
 
@@ -25,7 +26,7 @@ loop-holds : tie.Need-loop-holds Inv-loop μ-loop
 loop-holds c = search (needs, tasks-few, rows-none)
 
 row-of-requires : tie.Need-row-of-requires Inv-loop μ-loop
-row-of-requires c κs = search needs
+row-of-requires c κs = search (needs, narrow)
 
 mul-table : tie.Need-mul-table Inv-loop μ-loop
 mul-table c = search needs
@@ -52,13 +53,15 @@ slice-aggregate-visit-tasks : tie.Need-slice-aggregate-visit-tasks Inv-loop μ-l
 slice-aggregate-visit-tasks c = search needs
 
 visit-tasks-requires : tie.Need-visit-tasks-requires Inv-loop μ-loop
-visit-tasks-requires c κs = (search (needs, laid), search (needs, le-of-eq), search (needs, sources-head, le-of-eq), search (needs, no-flags))
+visit-tasks-requires c κs = (search (needs, laid), search (needs, le-of-eq), search (needs, sources-head, le-of-eq), search (needs, tallied-none))
 
 same-length : tie.Need-same-length Inv-loop μ-loop
 same-length c = search needs
 
 returns : tie.Need-returns Inv-loop μ-loop
-returns c = search (needs, found-flags, found-count)
+returns c =
+    let fits : (k : ℕ) → getD (c .before .before .before .visit-tasks .last .1 .1 .1 .1 .0) k 0 < 65536 = λ k. c .slice-known2 .given k .fits in
+    (search (needs, found-count), search (needs, found-masks))
 
 pub find-transfers-spec : {M : Type 1} → statement M
 find-transfers-spec =

@@ -8,10 +8,10 @@ use Rattle.plan.proofs.transfers.note_row.Statement.{statement}
 use Rattle.plan.proofs.transfers.note_row.Tie as tie
 
 abbrev Inv-loop : tie.InvT-loop
-Inv-loop row count base last₀ a₀ last a = (a ≤ count) × (length last ≡ 128) × (last ≡ noted row base a last₀)
+Inv-loop row base last₀ a₀ last a = (a ≤ 8) × (length last ≡ 128) × (last ≡ noted row base a last₀)
 
 abbrev μ-loop : tie.MeasureT-loop
-μ-loop row count base last₀ a₀ last a = count - a
+μ-loop row base last₀ a₀ last a = 8 - a
 
 loop-holds : tie.Need-loop-holds Inv-loop μ-loop
 loop-holds c = search (needs, noted-none)
@@ -22,8 +22,8 @@ mul-word c = search needs
 element-copy-out-word : tie.Need-element-copy-out-word Inv-loop μ-loop
 element-copy-out-word c = search needs
 
-as-index-requires : tie.Need-as-index-requires Inv-loop μ-loop
-as-index-requires c κs = search needs
+region-of-requires : tie.Need-region-of-requires Inv-loop μ-loop
+region-of-requires c κs = search needs
 
 mul-put-if : tie.Need-mul-put-if Inv-loop μ-loop
 mul-put-if c = search needs
@@ -58,7 +58,7 @@ note-row-spec =
     loop-holds
     mul-word
     element-copy-out-word
-    as-index-requires
+    region-of-requires
     mul-put-if
     add-put-if
     put-if-requires

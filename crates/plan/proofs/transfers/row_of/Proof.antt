@@ -1,5 +1,6 @@
 use Prim.Native.Nat.{_≤_, _-_}
 use mathlib.Core.Path.{_≡_}
+use native.Mathlib.Omega.{arith}
 use borrow.Author.Needs.{needs}
 use lib.ListN.{length, take}
 use Rattle.finite.specs.Lists.{tabulate}
@@ -17,23 +18,26 @@ abbrev μ-loop : tie.MeasureT-loop
 loop-holds : tie.Need-loop-holds Inv-loop μ-loop
 loop-holds c = search (needs, tabulate-none)
 
+mul-as-narrow : tie.Need-mul-as-narrow Inv-loop μ-loop
+mul-as-narrow c = search needs
+
+add-as-narrow : tie.Need-add-as-narrow Inv-loop μ-loop
+add-as-narrow c = search needs
+
+add-as-narrow-2 : tie.Need-add-as-narrow-2 Inv-loop μ-loop
+add-as-narrow-2 c = search needs
+
+mul-as-narrow-2 : tie.Need-mul-as-narrow-2 Inv-loop μ-loop
+mul-as-narrow-2 c = search needs
+
+shared-slice-read-as-narrow : tie.Need-shared-slice-read-as-narrow Inv-loop μ-loop
+shared-slice-read-as-narrow c = search needs
+
+as-narrow-requires : tie.Need-as-narrow-requires Inv-loop μ-loop
+as-narrow-requires c κs = c .before .before .before .before .pre .fits (c .before .before .loop .a) (omega arith)
+
 mul-row : tie.Need-mul-row Inv-loop μ-loop
 mul-row c = search needs
-
-add-row : tie.Need-add-row Inv-loop μ-loop
-add-row c = search needs
-
-add-row-2 : tie.Need-add-row-2 Inv-loop μ-loop
-add-row-2 c = search needs
-
-mul-row-2 : tie.Need-mul-row-2 Inv-loop μ-loop
-mul-row-2 c = search needs
-
-shared-slice-read-row : tie.Need-shared-slice-read-row Inv-loop μ-loop
-shared-slice-read-row c = search needs
-
-mul-row-3 : tie.Need-mul-row-3 Inv-loop μ-loop
-mul-row-3 c = search needs
 
 array-write-row : tie.Need-array-write-row Inv-loop μ-loop
 array-write-row c = search needs
@@ -57,12 +61,13 @@ row-of-spec =
     Inv-loop
     μ-loop
     loop-holds
+    mul-as-narrow
+    add-as-narrow
+    add-as-narrow-2
+    mul-as-narrow-2
+    shared-slice-read-as-narrow
+    as-narrow-requires
     mul-row
-    add-row
-    add-row-2
-    mul-row-2
-    shared-slice-read-row
-    mul-row-3
     array-write-row
     add-a
     loop-less

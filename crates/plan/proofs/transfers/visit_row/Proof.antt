@@ -1,19 +1,18 @@
-use Prim.Native.Nat.{_+_, _≤_, _-_}
+use Prim.Native.Nat.{_≤_, _-_}
 use mathlib.Core.Path.{_≡_}
-use native.Mathlib.Omega.{arith}
 use borrow.Author.Needs.{needs}
 use lib.ListN.{length}
-use Rattle.plan.specs.Search.{noted, marked, ones}
+use Rattle.plan.specs.Search.{noted, marked, flagsOf, Tallied}
 use Rattle.plan.proofs.Last.{noted-none, noted-more, noted-done}
-use Rattle.plan.proofs.Marks.{ones-most, source-below, marked-none, marked-more, marked-done}
+use Rattle.plan.proofs.Marks.{source-below, marked-none, marked-more, marked-done}
 use Rattle.plan.proofs.transfers.visit_row.Statement.{statement}
 use Rattle.plan.proofs.transfers.visit_row.Tie as tie
 
 abbrev Inv-loop : tie.InvT-loop
-Inv-loop row count rank base last₀ wanted₀ total₀ a₀ last wanted total a = (a ≤ count) × (length last ≡ 128) × (length wanted ≡ 16384) × (last ≡ noted row base a last₀) × (wanted ≡ marked row last₀ rank a wanted₀) × (ones wanted ≡ ones wanted₀ + total)
+Inv-loop row count rank base last₀ wanted₀ before total₀ a₀ last wanted total a = (a ≤ count) × (length last ≡ 128) × (last ≡ noted row base a last₀) × (flagsOf wanted ≡ marked row last₀ rank a (flagsOf wanted₀)) × Tallied wanted total
 
 abbrev μ-loop : tie.MeasureT-loop
-μ-loop row count rank base last₀ wanted₀ total₀ a₀ last wanted total a = count - a
+μ-loop row count rank base last₀ wanted₀ before total₀ a₀ last wanted total a = count - a
 
 loop-holds : tie.Need-loop-holds Inv-loop μ-loop
 loop-holds c = search (needs, noted-none, marked-none)
@@ -24,8 +23,8 @@ mul-word c = search needs
 element-copy-out-word : tie.Need-element-copy-out-word Inv-loop μ-loop
 element-copy-out-word c = search needs
 
-as-index-requires : tie.Need-as-index-requires Inv-loop μ-loop
-as-index-requires c κs = search needs
+region-of-requires : tie.Need-region-of-requires Inv-loop μ-loop
+region-of-requires c κs = search needs
 
 mul-source : tie.Need-mul-source Inv-loop μ-loop
 mul-source c = search needs
@@ -35,9 +34,6 @@ slice-read-source c = search needs
 
 claim-requires : tie.Need-claim-requires Inv-loop μ-loop
 claim-requires c κs = search (needs, source-below)
-
-add-total : tie.Need-add-total Inv-loop μ-loop
-add-total c = omega (arith, ones-most (c .before .before .claim .last .1 .1 .1 .0))
 
 mul-put-if : tie.Need-mul-put-if Inv-loop μ-loop
 mul-put-if c = search needs
@@ -55,7 +51,7 @@ loop-less : tie.Need-loop-less Inv-loop μ-loop
 loop-less c = search needs
 
 loop-again : tie.Need-loop-again Inv-loop μ-loop
-loop-again c = (search needs, search needs, search needs, search (needs, noted-more), search (needs, marked-more), search needs)
+loop-again c = (search needs, search needs, search (needs, noted-more), search (needs, marked-more), search needs)
 
 same-length : tie.Need-same-length Inv-loop μ-loop
 same-length c = search needs
@@ -75,11 +71,10 @@ visit-row-spec =
     loop-holds
     mul-word
     element-copy-out-word
-    as-index-requires
+    region-of-requires
     mul-source
     slice-read-source
     claim-requires
-    add-total
     mul-put-if
     add-put-if
     put-if-requires

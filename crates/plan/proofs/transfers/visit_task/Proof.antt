@@ -17,35 +17,17 @@ mul-rank-2 c = search needs
 shared-slice-read-rank : tie.Need-shared-slice-read-rank
 shared-slice-read-rank c = search needs
 
-mul-as-index : tie.Need-mul-as-index
-mul-as-index c = search needs
-
-add-as-index : tie.Need-add-as-index
-add-as-index c = search needs
-
-mul-as-index-2 : tie.Need-mul-as-index-2
-mul-as-index-2 c = search needs
-
-shared-slice-read-as-index : tie.Need-shared-slice-read-as-index
-shared-slice-read-as-index c = search needs
-
-as-index-requires : tie.Need-as-index-requires
-as-index-requires c κs = search needs
-
 mul-visit-row : tie.Need-mul-visit-row
 mul-visit-row c = search needs
 
 index-1-visit-row : tie.Need-index-1-visit-row
 index-1-visit-row c = search needs
 
-mul-visit-row-2 : tie.Need-mul-visit-row-2
-mul-visit-row-2 c = search needs
+count-of-requires : tie.Need-count-of-requires
+count-of-requires c κs = search needs
 
-add-visit-row : tie.Need-add-visit-row
-add-visit-row c = search needs
-
-add-visit-row-2 : tie.Need-add-visit-row-2
-add-visit-row-2 c = search needs
+base-of-requires : tie.Need-base-of-requires
+base-of-requires c κs = search needs
 
 visit-row-requires : tie.Need-visit-row-requires
 visit-row-requires c κs = search (needs, apart-as)
@@ -67,16 +49,10 @@ visit-task-spec =
     add-rank
     mul-rank-2
     shared-slice-read-rank
-    mul-as-index
-    add-as-index
-    mul-as-index-2
-    shared-slice-read-as-index
-    as-index-requires
     mul-visit-row
     index-1-visit-row
-    mul-visit-row-2
-    add-visit-row
-    add-visit-row-2
+    count-of-requires
+    base-of-requires
     visit-row-requires
     same-length
     same-length-2

@@ -1,17 +1,16 @@
-use Prim.Native.Nat.{_+_, _≤_, _-_}
+use Prim.Native.Nat.{_≤_, _-_}
 use mathlib.Core.Path.{_≡_}
-use native.Mathlib.Omega.{arith}
 use borrow.Author.Needs.{needs}
 use lib.ListN.{length}
-use Rattle.plan.specs.Search.{notedTasks, markedTasks, ones}
+use Rattle.plan.specs.Search.{notedTasks, markedTasks, flagsOf, Tallied}
 use Rattle.plan.proofs.Rows.{ready}
 use Rattle.plan.proofs.Last.{notedTasks-none, notedTasks-more, notedTasks-done, sources-noted}
-use Rattle.plan.proofs.Marks.{ones-most, markedTasks-none, markedTasks-more, markedTasks-done}
+use Rattle.plan.proofs.Marks.{markedTasks-none, markedTasks-more, markedTasks-done}
 use Rattle.plan.proofs.transfers.visit_tasks.Statement.{statement}
 use Rattle.plan.proofs.transfers.visit_tasks.Tie as tie
 
 abbrev Inv-loop : tie.InvT-loop
-Inv-loop plan table n last₀ wanted₀ total₀ t₀ last wanted total t = (t ≤ n) × (length last ≡ 128) × (length wanted ≡ 16384) × (last ≡ notedTasks plan t last₀) × (wanted ≡ markedTasks plan last₀ t wanted₀) × (ones wanted ≡ ones wanted₀ + total)
+Inv-loop plan table n last₀ wanted₀ total₀ t₀ last wanted total t = (t ≤ n) × (length last ≡ 128) × (last ≡ notedTasks plan t last₀) × (flagsOf wanted ≡ markedTasks plan last₀ t (flagsOf wanted₀)) × Tallied wanted total
 
 abbrev μ-loop : tie.MeasureT-loop
 μ-loop plan table n last₀ wanted₀ total₀ t₀ last wanted total t = n - t
@@ -21,9 +20,6 @@ loop-holds c = search (needs, notedTasks-none, markedTasks-none)
 
 visit-task-requires : tie.Need-visit-task-requires Inv-loop μ-loop
 visit-task-requires c κs = search (needs, ready, sources-noted)
-
-add-total : tie.Need-add-total Inv-loop μ-loop
-add-total c = omega (arith, ones-most (c .before .before .before .before .visit-task .last .1 .1 .1 .1 .0))
 
 add-t : tie.Need-add-t Inv-loop μ-loop
 add-t c = search needs
@@ -51,7 +47,6 @@ visit-tasks-spec =
     μ-loop
     loop-holds
     visit-task-requires
-    add-total
     add-t
     loop-less
     loop-again
