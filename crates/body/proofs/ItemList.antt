@@ -18,7 +18,7 @@ pub in-pair : (x : Item) (i g q : ℕ) → In x (pairOf (transfer i g q)) → (x
 in-pair x i g q h = ⊎-elim (λ e. inl e) (λ m. ⊎-elim (λ e. inr e) (λ n. absurd (in-nil n)) (in-cases m)) (in-cases h)
 
 -- the transfer of a send or receive
-abbrev carried : Item → Option Transfer
+abbrev pub carried : Item → Option Transfer
 carried (task i) = none
 carried (send i g q) = some (transfer i g q)
 carried (receive i g q) = some (transfer i g q)

@@ -2,6 +2,7 @@ pub mod Writers
 pub mod ItemList
 pub mod ItemCount
 pub mod ItemOrder
+pub mod Numbered
 pub mod Places
 pub mod Holders
 pub mod Simulation

@@ -27,6 +27,7 @@ use Rattle.body.proofs.Writers.{last-writer, no-writer, sources, last-s
 use Rattle.body.proofs.ItemList.{tasks-listed, sends-listed, receives-listed}
 use Rattle.body.proofs.ItemCount.{items-counted}
 use Rattle.body.proofs.ItemOrder.{ordered, listed-once, send-then, receive-after}
+use Rattle.body.proofs.Numbered.{numbered}
 use Rattle.body.proofs.Places.{slots-apart, copies-apart, copy-no-slot, copy-opening, slot-opening, one-rank}
 use Rattle.body.proofs.Holders.{holder, holder-start, up-to-date-own}
 use Rattle.body.proofs.Simulation.{before-pass, words}
@@ -78,6 +79,7 @@ module _ (B : Body) where
           listed-once = listed-once B F;
           send-then = send-then B F;
           receive-after = receive-after B F;
+          numbered = numbered B;
           copies-apart = copies-apart B;
           slots-apart = slots-apart;
           copy-no-slot = copy-no-slot B F;

@@ -5,12 +5,13 @@ use mathlib.Core.Bool.{true, false}
 use mathlib.Core.Logic.{_⊎_, _↔_}
 use mathlib.Core.List.{List, [], _∷_}
 use mathlib.Core.Option.{none, some}
+use lib.ListN.{getD}
 use Rattle.finite.specs.Lists.{mem, position}
 use Rattle.unroll.specs.Instances.{Before}
 use Rattle.unroll.specs.Edges.{Edge}
 use Rattle.body.specs.Body.{Body}
-use Rattle.body.specs.Transfers.{lastBefore, source, transferCount}
-use Rattle.body.specs.Items.{Item, task, send, receive, itemCount, itemAt}
+use Rattle.body.specs.Transfers.{transfer, lastBefore, source, transferList, transferCount}
+use Rattle.body.specs.Items.{Item, task, send, receive, itemCount, itemAt, transferOf}
 use Rattle.body.specs.Places.{slot, copy, initial, system}
 
 -- lexicographic order, of lists of one length
@@ -74,6 +75,9 @@ module _ (B : Body) where
         (suc a < itemCount B) × (itemAt B (suc a) ≡ receive i g q)
     pub receive-after : (a i g q : ℕ) → a < itemCount B → itemAt B a ≡ receive i g q →
         (b : ℕ) × (a ≡ suc b) × (itemAt B b ≡ send i g q)
+    -- the number of its transfer leads an item of one to it
+    pub numbered : (a i g q : ℕ) → a < itemCount B → (itemAt B a ≡ send i g q) ⊎ (itemAt B a ≡ receive i g q) →
+        (transferOf B a < transferCount B) × (getD (transferList B) (transferOf B a) (transfer 0 0 0) ≡ transfer i g q)
     -- copies and slots are places apart, and hold what the opening sets
     pub copies-apart : (q g r h : ℕ) → g < B .regions → h < B .regions → copy B q g ≡ copy B r h → (q ≡ r) × (g ≡ h)
     pub slots-apart : (a b : ℕ) → slot a ≡ slot b → a ≡ b

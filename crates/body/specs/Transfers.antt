@@ -41,6 +41,9 @@ module _ (B : Body) where
   unfoldable pub transfersOf : ℕ → List Transfer
   transfersOf i = flatMap (λ g. gather (B .ranks) (transferred i g) (transfer i g)) (B .writes i)
 
-  -- the number of transfers of the body
+  -- the transfers of the body, task after task, and their number
+  abbrev pub transferList : List Transfer
+  transferList = flatMap transfersOf (range 0 (B .tasks))
+
   unfoldable pub transferCount : ℕ
-  transferCount = length (flatMap transfersOf (range 0 (B .tasks)))
+  transferCount = length transferList

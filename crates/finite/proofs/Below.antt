@@ -1,7 +1,7 @@
 -- Laws of the quantifiers, counts and sums below n. Those that end in -none, -more and -done are a loop's: before its first
 -- turn, over a turn, and after its last.
 use Prim.Native.Nat.{ℕ, zero, suc, _+_, _*_, _≤_, _<_}
-use mathlib.Core.Path.{_≡_, refl, sym, _∙_, ap}
+use mathlib.Core.Path.{_≡_, refl, sym, _∙_, ap, subst}
 use mathlib.Core.Bool.{Bool, true, false, cond, _&&_, _||_, or-true, and-eq-true-iff, not}
 use mathlib.Core.Logic.{⊎-elim}
 use native.Mathlib.Decide.{decLt, ℕ-discrete}
@@ -11,7 +11,7 @@ use native.Mathlib.Omega.{arith}
 use borrow.Author.Tests.{eqb-false, ne-eqb, not-true}
 use lib.Dec.{eqb}
 use Rattle.finite.specs.Below.{allBelow, anyBelow, countBelow, sumBelow}
-use Rattle.finite.proofs.Tests.{and-true, false-of, not-both, or-cases}
+use Rattle.finite.proofs.Tests.{and-true, false-of, not-both, or-cases, test-ext}
 
 -- what holds below n and of n holds below n + 1
 pub below-suc : (P : ℕ → Type 0) (n : ℕ) → ((k : ℕ) → k < n → P k) → P n → (k : ℕ) → k < suc n → P k
@@ -93,6 +93,29 @@ pub any-ext : (n : ℕ) (p q : ℕ → Bool) → ((i : ℕ) → i < n → p i �
 unfolding anyBelow
 any-ext zero p q h = refl
 any-ext (suc n) p q h = rw (any-ext n p q (λ i k. h i (omega arith)), h n (omega arith))
+
+pub any-or : (n : ℕ) (p q : ℕ → Bool) → anyBelow n (λ i. p i || q i) ≡ (anyBelow n p || anyBelow n q)
+unfolding anyBelow
+any-or zero p q = refl
+any-or (suc n) p q = ap (λ (b : Bool). b || (p n || q n)) (any-or n p q) ∙ go (anyBelow n p) (anyBelow n q) (p n)
+  where
+    go : (a b c : Bool) → ((a || b) || (c || q n)) ≡ ((a || c) || (b || q n))
+    go true b c = refl
+    go false true true = refl
+    go false true false = refl
+    go false false true = refl
+    go false false false = refl
+
+-- a test that holds of one number at most
+pub any-only : (p : ℕ → Bool) (n i : ℕ) → i < n → ((j : ℕ) → j < n → (j ≡ i → ⊥) → p j ≡ false) → anyBelow n p ≡ p i
+any-only p n i l f = test-ext (anyBelow n p) (p i) (λ h. there (any-from p n h)) (λ h. any-at p n i l h)
+  where
+    there : (j : ℕ) × (j < n) × (p j ≡ true) → p i ≡ true
+    there (j, k, h) =
+        elim (ℕ-discrete j i) [
+          | yes e ↦ subst (λ (x : ℕ). p x ≡ true) e h
+          | no e ↦ absurd (not-both h (f j k e))
+        ]
 
 pub all-not : (n : ℕ) (p : ℕ → Bool) → allBelow n (λ i. not (p i)) ≡ not (anyBelow n p)
 unfolding allBelow anyBelow
@@ -210,7 +233,7 @@ count-suc n p q a l e f h =
 pub count-beyond : (m n : ℕ) (p : ℕ → Bool) → n ≤ m → ((k : ℕ) → n ≤ k → k < m → p k ≡ false) → countBelow m p ≡ countBelow n p
 count-beyond m n p l h = count-sum m p ∙ (sum-beyond m n (λ k. cond (p k) 1 0) l (λ k u v. rw (h k u v)) ∙ sym (count-sum n p))
 
-count-add : (a n : ℕ) (p : ℕ → Bool) → countBelow (a + n) p ≡ countBelow a p + countBelow n (λ j. p (a + j))
+pub count-add : (a n : ℕ) (p : ℕ → Bool) → countBelow (a + n) p ≡ countBelow a p + countBelow n (λ j. p (a + j))
 unfolding countBelow
 count-add a zero p = rw (add-zero a, add-zero)
 count-add a (suc n) p = rw add-suc (omega (arith, count-add a n p))

@@ -6,4 +6,6 @@ pub mod Update
 pub mod Decide
 pub mod Sorted
 pub mod Tabulate
+pub mod Sums
+pub mod Collect
 pub mod Bits

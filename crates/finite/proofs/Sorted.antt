@@ -1,15 +1,15 @@
 -- Lists whose elements stand in order by a relation.
 use Prim.Native.Nat.{ℕ, zero, suc, _+_, _≤_, _<_}
-use mathlib.Core.Path.{_≡_, refl, sym, subst}
+use mathlib.Core.Path.{_≡_, refl, sym, _∙_, ap₂, subst}
 use mathlib.Core.Bool.{Bool, true, false, cond, not, and-eq-true-iff}
 use mathlib.Core.Logic.{⊎-elim}
-use mathlib.Core.List.{List, [], _∷_, _++_, flatMap, List·Memᴰ as In, List·Memᴰ·head as here, List·Memᴰ·tail as there, List·Memᴰ·not-nil as in-nil, List·Memᴰ·append-cases as in-append, List·Memᴰ·eq-of-singleton as in-one}
+use mathlib.Core.List.{List, [], _∷_, _++_, flatMap, List·Memᴰ as In, List·Memᴰ·head as here, List·Memᴰ·tail as there, List·Memᴰ·not-nil as in-nil, List·Memᴰ·cases-cons as in-cases, List·Memᴰ·append-cases as in-append, List·Memᴰ·eq-of-singleton as in-one}
 use native.Mathlib.Omega.{arith}
 use borrow.Author.Tests.{eq-eqb, ne-eqb, not-true}
 use lib.ListN.{length, getD}
 use Rattle.finite.specs.Lists.{mem, distinct, position, range, gather}
 use Rattle.finite.proofs.Tests.{not-both}
-use Rattle.finite.proofs.Members.{in-mem, at-in, in-flatMap-from}
+use Rattle.finite.proofs.Members.{in-mem, in-at, at-in, in-flatMap-from}
 use Rattle.finite.proofs.Lists.{in-range-from, in-gather-from}
 
 module _ {X : Type 0} where
@@ -84,3 +84,28 @@ sorted-distinct (x ∷ l) h =
       sorted-imp (λ (y z : ℕ). position y l < position z l) (λ (y z : ℕ). position y (x ∷ l) < position z (x ∷ l)) l
           (λ y z m k s. omega (arith, position-tail x y l m n, position-tail x z l k n)) (sorted-distinct l (d .1)),
     )
+
+module _ {X : Type 0} (R : X → X → Type 0) where
+  -- by their indices
+  pub sorted-from : (d : X) (l : List X) → ((i j : ℕ) → i < j → j < length l → R (getD l i d) (getD l j d)) → Sorted R l
+  sorted-from d [] f = tt
+  sorted-from d (x ∷ l) f = (
+    λ y m. let r = in-at y d l m in subst (λ z. R x z) (r .2) (f 0 (suc (r .0)) (omega arith) (omega (arith, r .1))),
+    sorted-from d l (λ i j h k. f (suc i) (suc j) (omega arith) (omega arith)),
+  )
+
+  -- by an order that no element has both ways with another, or with itself: the same elements make the same list
+  pub sorted-unique : ((x y : X) → R x y → R y x → ⊥) → (l k : List X) → Sorted R l → Sorted R k → ((x : X) → In x l → In x k) → ((x : X) → In x k → In x l) → l ≡ k
+  sorted-unique n [] [] s t f g = refl
+  sorted-unique n [] (y ∷ k) s t f g = absurd (in-nil (g y (here refl)))
+  sorted-unique n (x ∷ l) [] s t f g = absurd (in-nil (f x (here refl)))
+  sorted-unique n (x ∷ l) (y ∷ k) s t f g =
+      ap₂ _∷_ same (sorted-unique n l k (s .1) (t .1)
+      (λ z m. ⊎-elim (λ e. absurd (self x (subst (λ w. R x w) (e ∙ sym same) (s .0 z m)))) (λ u. u) (in-cases (f z (there m))))
+      (λ z m. ⊎-elim (λ e. absurd (self y (subst (λ w. R y w) (e ∙ same) (t .0 z m)))) (λ u. u) (in-cases (g z (there m)))))
+    where
+      self : (z : X) → R z z → ⊥
+      self z h = n z z h h
+
+      same : x ≡ y
+      same = ⊎-elim (λ e. e) (λ m. ⊎-elim (λ e. sym e) (λ u. absurd (n x y (s .0 y u) (t .0 x m))) (in-cases (g y (here refl)))) (in-cases (f x (here refl)))

@@ -1,5 +1,5 @@
 -- Laws of update, put, set and putBelow.
-use Prim.Native.Nat.{ℕ, zero, suc, _+_, _-_, _≤_}
+use Prim.Native.Nat.{ℕ, zero, suc, _+_, _-_, _≤_, _<_}
 use mathlib.Core.Path.{_≡_, refl, sym, _∙_, ap, subst}
 use mathlib.Core.Bool.{Bool, true, false, cond}
 use mathlib.Core.List.{List, [], _∷_, _++_, append-nil}
@@ -9,7 +9,7 @@ use native.Mathlib.Omega.{arith}
 use borrow.Author.Tests.{eqb-true, eqb-false, eq-eqb}
 use lib.Dec.{eqb}
 use lib.ListN.{length, getD, take, drop, set, length-set, length-drop, take-append-drop, drop-of-length-le}
-use lib.Seq.{length-take-le, take-all}
+use lib.Seq.{length-take-le, take-all, getD-set-same, getD-set-other}
 use Rattle.finite.specs.Lists.{mem}
 use Rattle.finite.specs.Update.{update, put, putBelow}
 
@@ -115,3 +115,11 @@ pub put-lent-if : (xs ys : List ℕ) (a g v : ℕ) (t : Bool) → a ≤ length x
     → take a xs ++ (ys ++ drop (length xs - a) (drop a xs)) ≡ cond t (set xs (a + g) v) xs
 unfolding putBelow
 put-lent-if xs ys a g v t h e = put-lent 1 (λ _. t) (λ _. g) v a xs ys h e
+
+-- set at k, seen at g
+pub set-at : {X : Type 0} (xs : List X) (k g : ℕ) (v d : X) → k < length xs → getD (set xs k v) g d ≡ cond (eqb g k) v (getD xs g d)
+set-at xs k g v d h = go (eqb g k) refl
+  where
+    go : (t : Bool) → eqb g k ≡ t → getD (set xs k v) g d ≡ cond t v (getD xs g d)
+    go true e = subst (λ (j : ℕ). getD (set xs k v) j d ≡ v) (sym (eqb-true g k e)) (getD-set-same xs k v d h)
+    go false e = getD-set-other xs k g v d (eqb-false g k e)

@@ -34,3 +34,8 @@ module _ {X : Type 0} where
   unfoldable pub gather : ℕ → (ℕ → Bool) → (ℕ → X) → List X
   gather zero p f = []
   gather (suc n) p f = gather n p f ++ cond (p n) (f n ∷ []) []
+
+  -- the lists f 0, f 1, .., f (n - 1), one after another
+  unfoldable pub collect : ℕ → (ℕ → List X) → List X
+  collect zero f = []
+  collect (suc n) f = collect n f ++ f n

@@ -1,0 +1,4 @@
+pub mod Touches
+pub mod Decided
+pub mod AllEdges
+pub mod Bound

@@ -1,0 +1,4 @@
+pub mod Rule
+pub mod Touch
+pub mod Tests
+pub mod EdgeList

@@ -1,0 +1,8 @@
+pub mod Answers
+pub mod Laws
+pub mod Table
+pub mod Added
+pub mod Codes
+pub mod Rows
+pub mod Listing
+pub mod Tasks

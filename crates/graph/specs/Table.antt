@@ -1,0 +1,28 @@
+-- The item table: a number for each item, its rank, kind, and task or region. It serves the contracts of private functions: nothing that
+-- a reader must believe.
+use Prim.Native.Nat.{ℕ, _+_, _*_, _≤_, _<_}
+use mathlib.Core.Path.{_≡_}
+use mathlib.Core.Bool.{true}
+use mathlib.Core.List.{List}
+use lib.ListN.{length, getD}
+use Rattle.body.specs.Body.{Body}
+use Rattle.body.specs.Items.{Item, task, send, receive, kindOf, itemRank, itemCount, itemAt}
+use Rattle.plan.specs.Layout.{planWords, bodyOf}
+use Rattle.plan.specs.Form.{inForm}
+
+-- of a task its number, of a send or receive its region
+abbrev pub subjectOf : Item → ℕ
+subjectOf (task i) = i
+subjectOf (send i g q) = g
+subjectOf (receive i g q) = g
+
+unfoldable pub codeOf : Body → Item → ℕ
+codeOf B x = 512 * itemRank B x + (128 * kindOf x + subjectOf x)
+
+-- words in form, and a table of their items
+pub record Graph (w items : List ℕ) (n : ℕ) : Type 0 where
+  pub long : length w ≡ planWords
+  pub formed : inForm w ≡ true
+  pub count : n ≡ itemCount (bodyOf w)
+  pub most : n ≤ 640
+  pub each : (a : ℕ) → a < n → getD items a 0 ≡ codeOf (bodyOf w) (itemAt (bodyOf w) a)
