@@ -63,20 +63,78 @@ static int largest_plan(char *text) {
     return at;
 }
 
-/* As many transfers as a plan may have: 128 tasks of 8 accesses round 16 ranks, each with six regions of its own and two that all share,
-   so that the words of the shared ones change rank at every access. */
-static int most_transfers_plan(char *text) {
-    int at = put_loop(text, 0, 1000000, 16, 128);
+/* As many items as a plan may have: 128 tasks of 8 accesses round some ranks, each with six regions of its own and two that all share,
+   so that the words of the shared ones change rank at every access: 256 transfers, 640 items. */
+static int most_items_plan(char *text, int ranks) {
+    int at = put_loop(text, 0, 1000000, ranks, 128);
     at = put_starts(text, at, 128);
     for (int i = 0; i < 128; i++) {
-        at = put_begin(text, at, i % 16);
+        at = put_begin(text, at, i % ranks);
         for (int a = 0; a < 6; a++)
-            at = put_access(text, at, "inout", 6 * (i % 16) + a);
+            at = put_access(text, at, "inout", 6 * (i % ranks) + a);
         at = put_access(text, at, "inout", 126);
         at = put_access(text, at, "inout", 127);
         at = put(text, at, "end\n");
     }
     return at;
+}
+
+/* As many items, and long walks: 32 tasks on rank 0 write eight words each that a task on rank 1 reads, 256 transfers; before them stand 64
+   tasks on rank 0 that read eight regions which nobody writes, so that no writer ends a walk from them. */
+static int longest_walk_plan(char *text) {
+    int at = put_loop(text, 0, 1000000, 2, 16);
+    for (int i = 0; i < 64; i++) {
+        at = put_begin(text, at, 0);
+        for (int a = 0; a < 8; a++)
+            at = put_access(text, at, "in", 8 + a);
+        at = put(text, at, "end\n");
+    }
+    for (int i = 0; i < 64; i++) {
+        at = put_begin(text, at, i % 2);
+        for (int a = 0; a < 8; a++)
+            at = put_access(text, at, i % 2 == 0 ? "out" : "in", a);
+        at = put(text, at, "end\n");
+    }
+    return at;
+}
+
+/* Gauss-Seidel on 40 blocks, eight by five, over 16 ranks. */
+static int blocks_plan(char *text) {
+    enum { WIDTH = 8, HEIGHT = 5 };
+    int at = put_loop(text, 0, 10, 16, WIDTH * HEIGHT);
+    for (int y = 0; y < HEIGHT; y++)
+        for (int x = 0; x < WIDTH; x++) {
+            int block = y * WIDTH + x;
+            at = put_begin(text, at, block * 16 / (WIDTH * HEIGHT));
+            if (y > 0)
+                at = put_access(text, at, "in", block - WIDTH);
+            if (x > 0)
+                at = put_access(text, at, "in", block - 1);
+            if (x < WIDTH - 1)
+                at = put_access(text, at, "in", block + 1);
+            if (y < HEIGHT - 1)
+                at = put_access(text, at, "in", block + WIDTH);
+            at = put_access(text, at, "inout", block);
+            at = put(text, at, "end\n");
+        }
+    return at;
+}
+
+/* A plan by its name; 0 if there is none. */
+static int named_plan(char *text, const char *name) {
+    if (strcmp(name, "example") == 0)
+        return example_plan(text);
+    if (strcmp(name, "largest") == 0)
+        return largest_plan(text);
+    if (strcmp(name, "items") == 0)
+        return most_items_plan(text, 16);
+    if (strcmp(name, "items2") == 0)
+        return most_items_plan(text, 2);
+    if (strcmp(name, "walk") == 0)
+        return longest_walk_plan(text);
+    if (strcmp(name, "blocks") == 0)
+        return blocks_plan(text);
+    return 0;
 }
 
 #endif
