@@ -1,8 +1,8 @@
 #!/usr/bin/env python3
 """The graphs of plan texts by the paper's rule, apart from the crates: `python3 by_rule.py < stdin | diff - stdout`.
 
-Sources and edges are looked for in the tasks and items unrolled over three passes, one instance after another, and every pair of instances
-is tried at every place. Texts are parted by an empty line and are taken to be in form."""
+Sources and edges are looked for in the tasks and items unrolled over three passes. Every pair of an instance of pass 0 and a later one is tried at
+every place that both access: an edge stands where one of them writes it and no instance strictly between does. Texts are parted by an empty line and are taken to be in form."""
 import sys
 
 READS, WRITES = ("in", "inout"), ("out", "inout")
@@ -63,15 +63,12 @@ def edges_of(tasks, items):
     n = len(items)
     found = {(a, a, 1) for a in range(n)}
     for a in range(n):
-        reads, writes = touched[a]
-        for x in reads | writes:
-            # the instances behind (0, a), up to the first that writes x
-            for k in range(a + 1, 3 * n):
-                p, b = divmod(k, n)
-                if x in touched[b][1] or (x in touched[b][0] and x in writes):
+        for k in range(a + 1, 3 * n):
+            p, b = divmod(k, n)
+            shared = (touched[a][0] | touched[a][1]) & (touched[b][0] | touched[b][1])
+            for x in shared & (touched[a][1] | touched[b][1]):
+                if not any(x in touched[j % n][1] for j in range(a + 1, k)):
                     found.add((a, b, p))
-                if x in touched[b][1]:
-                    break
     return sorted(found)
 
 
