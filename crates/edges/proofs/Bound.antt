@@ -4,18 +4,17 @@ use Prim.Native.Nat.{ℕ, _+_, _-_, _*_, _≤_, _<_}
 use mathlib.Core.Path.{_≡_, refl, sym, _∙_, ap, subst}
 use mathlib.Core.Bool.{Bool, true, false, cond, not, _&&_, _||_, or-true}
 use mathlib.Core.Logic.{_⊎_, inl, inr, ⊎-elim}
-use mathlib.Core.List.{flatMap}
 use native.Mathlib.Decide.{decLt}
 use native.Mathlib.Omega.{arith}
 use borrow.Author.Tests.{eqb-true, eqb-false, eq-eqb, leb-true, le-leb, lt-ltb, le-ltb, not-true}
 use lib.Dec.{eqb, leb}
 use lib.ListN.{length}
 use Rattle.finite.specs.Below.{countBelow, sumBelow}
-use Rattle.finite.specs.Lists.{mem, range}
+use Rattle.finite.specs.Lists.{mem}
 use Rattle.finite.proofs.Tests.{and-true, not-both, or-cases}
 use Rattle.finite.proofs.Below.{any-at, count-ext, count-sum, sum-const, sum-ext, sum-le}
 use Rattle.finite.proofs.Lists.{length-flatMap-range, length-gather}
-use Rattle.finite.proofs.Sums.{count-any, count-apart, count-disjoint, count-not, count-once, count-or, count-parts, length-flatMap-part, sum-add, sum-cond, sum-swap}
+use Rattle.finite.proofs.Sums.{count-any, count-apart, count-disjoint, count-not, count-once, count-or, count-parts, sum-add, sum-cond, sum-swap}
 use Rattle.body.specs.Body.{Body, Fits}
 use Rattle.body.specs.Items.{Item, task, send, receive, kindOf, writer, itemCount, itemAt}
 use Rattle.body.proofs.ItemList.{tasks-listed}
@@ -317,7 +316,3 @@ module _ (B : Body) where
 
   pub edges-bounded : Fits B → Small B → length (edgeList B) ≤ maxEdges
   edges-bounded F S = omega (arith, edges-counted, touches-bounded S, tasks-bounded F, items-counted B, S .tasks, S .transfers)
-
-  pub row-room : (a : ℕ) → a < itemCount B → length (flatMap (edgesFrom B) (range 0 a)) + length (edgesFrom B a) ≤ length (edgeList B)
-  unfolding edgeList
-  row-room a l = length-flatMap-part (edgesFrom B) (itemCount B) a l

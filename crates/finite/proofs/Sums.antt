@@ -3,17 +3,13 @@ use Prim.Native.Nat.{ℕ, zero, suc, _+_, _*_, _≤_, _<_}
 use mathlib.Core.Path.{_≡_, refl, sym, _∙_}
 use mathlib.Core.Bool.{Bool, true, false, cond, not, _&&_, _||_}
 use mathlib.Core.Logic.{⊎-elim}
-use mathlib.Core.List.{List, flatMap}
 use native.Mathlib.Decide.{decLt}
 use native.Mathlib.Nat.{add-mul, one-mul, zero-mul}
 use native.Mathlib.Omega.{arith}
 use borrow.Author.Tests.{eqb-true, eq-eqb}
 use lib.Dec.{eqb}
-use lib.ListN.{length}
 use Rattle.finite.specs.Below.{anyBelow, countBelow, sumBelow}
-use Rattle.finite.specs.Lists.{range}
 use Rattle.finite.proofs.Below.{any-from, count-le, count-never, count-sum, sum-const, sum-ext, sum-le}
-use Rattle.finite.proofs.Lists.{length-flatMap-range}
 use Rattle.finite.proofs.Tests.{and-intro, and-true, false-of, true-or-false}
 
 -- sums
@@ -27,19 +23,6 @@ pub sum-swap : (m n : ℕ) (f : ℕ → ℕ → ℕ) → sumBelow m (λ i. sumBe
 unfolding sumBelow
 sum-swap zero n f = sym (sum-const n 0 ∙ omega arith)
 sum-swap (suc m) n f = omega (arith, sum-swap m n f, sum-add n (λ j. sumBelow m (λ i. f i j)) (f m))
-
--- the terms before a and a's own are not all
-pub sum-part : (n : ℕ) (f : ℕ → ℕ) (a : ℕ) → a < n → sumBelow a f + f a ≤ sumBelow n f
-unfolding sumBelow
-sum-part zero f a l = absurd (omega arith)
-sum-part (suc n) f a l =
-    elim (decLt a n) [
-      | yes k ↦ omega (arith, sum-part n f a k)
-      | no k ↦ (let e : n ≡ a = omega arith in rw e (omega arith))
-    ]
-
-pub length-flatMap-part : {Y : Type 0} (f : ℕ → List Y) (n a : ℕ) → a < n → length (flatMap f (range 0 a)) + length (f a) ≤ length (flatMap f (range 0 n))
-length-flatMap-part f n a l = omega (arith, length-flatMap-range f a, length-flatMap-range f n, sum-part n (λ i. length (f i)) a l)
 
 -- x for each number of which p holds, y for each other
 pub sum-cond : (n : ℕ) (p : ℕ → Bool) (x y : ℕ) → sumBelow n (λ k. cond (p k) x y) ≡ countBelow n p * x + countBelow n (λ k. not (p k)) * y

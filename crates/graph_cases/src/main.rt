@@ -3,6 +3,11 @@
 // pass 1 with pass 0 finished, and with nothing finished.
 use graph::Description;
 use graph::Verdict;
+ghost use Prim.Native.Nat.{_+_, _<_};
+ghost use mathlib.Core.Path.{_≡_};
+ghost use mathlib.Core.Bool.{cond, _&&_, _||_};
+ghost use lib.Dec.{eqb};
+ghost use lib.ListN.{length, getD};
 use libc::STDOUT_FILENO;
 
 fn print(bytes: &[u8]) {
@@ -38,11 +43,15 @@ fn print_item(k: u64, item: Description) {
     print(b"\n");
 }
 
-fn wide(x: u32) -> u64 {
+fn wide(x: u32) -> u64
+    ensures { λ r. ⌜ r ≡ x ⌝ }
+{
     x as u64
 }
 
-fn number_at(list: &[u32], at: usize) -> u64 {
+fn number_at(list: &[u32], at: usize) -> u64
+    ensures { λ r. ⌜ r ≡ getD (now (list .entry)) at 0 ⌝ }
+{
     if at < list.len() {
         return wide(list[at]);
     }
@@ -71,7 +80,9 @@ fn print_edges(list: &[u32], n: u64) {
 }
 
 // 1 where it holds.
-fn one_if(answer: Verdict) -> u64 {
+fn one_if(answer: Verdict) -> u64
+    ensures { λ r. ⌜ r ≡ cond (answer .holds) 1 0 ⌝ }
+{
     if answer.holds {
         return 1;
     }
@@ -143,7 +154,9 @@ fn print_text(number: u64, text: &[u8]) {
     print_graph(number, &plan);
 }
 
-fn byte_at(text: &[u8], at: usize) -> u8 {
+fn byte_at(text: &[u8], at: usize) -> u8
+    ensures { λ r. ⌜ r ≡ getD (now (text .entry)) at 0 ⌝ }
+{
     if at < text.len() {
         return text[at];
     }
@@ -151,8 +164,14 @@ fn byte_at(text: &[u8], at: usize) -> u8 {
 }
 
 // Whether an empty line stands behind the byte at `at`, or nothing.
-fn ends(text: &[u8], at: usize) -> bool {
-    let next = std::num::wrapping_add_usize(at, 1);
+fn ends(text: &[u8], at: usize) -> bool
+    requires { ⌜ at < length (now text) ⌝ }
+    ensures { λ r. ⌜
+        r ≡ (eqb (getD (now (text .entry)) at 0) 10
+        && (eqb (getD (now (text .entry)) (at + 1) 0) 10 || eqb (at + 1) (length (now (text .entry)))))
+        ⌝ }
+{
+    let next = at + 1;
     (byte_at(text, at) == 10) & ((byte_at(text, next) == 10) | (next == text.len()))
 }
 

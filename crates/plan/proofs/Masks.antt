@@ -7,7 +7,7 @@ use native.Mathlib.Omega.{arith}
 use lib.Dec.{eqb}
 use lib.ListN.{length, getD}
 use lib.Seq.{ext-getD}
-use Rattle.finite.proofs.Bits.{bits-ext, bits-below, bits-at, bits-of}
+use Rattle.finite.proofs.Bits.{bits-ext, bits-at, bits-of}
 use Rattle.finite.proofs.Lists.{length-tabulate, getD-tabulate}
 use Rattle.plan.specs.Wanted.{wantedAt, maskAt, wantedMasks}
 use Rattle.plan.specs.Search.{perFlag, wantedFlags, flagsOf}
@@ -17,9 +17,6 @@ use Rattle.plan.proofs.FlagsOf.{flag-own}
 module _ (w : List ℕ) (i a : ℕ) where
   pub mask-bit : (q : ℕ) → q < 16 → maskAt w i a / 2 ^ q % 2 ≡ cond (wantedAt w i a q) 1 0
   mask-bit q l = bits-at 16 (wantedAt w i a) q l
-
-  pub mask-below : maskAt w i a < 2 ^ 16
-  mask-below = bits-below 16 (wantedAt w i a)
 
   pub mask-at : i < 128 → a < 8 → getD (wantedMasks w) (8 * i + a) 0 ≡ maskAt w i a
   mask-at l m =
