@@ -16,15 +16,15 @@ typedef struct {
 } number;
 
 typedef struct {
-    uint64_t refusal;
+    uint64_t refusal, items, code;
     bool holds;
-} verdict;
+} waits;
 
 reading bench_read(const uint8_t *text, size_t length, uint64_t *plan, size_t words);
 bool bench_in_form(const uint64_t *plan, size_t words);
 number bench_size(const uint64_t *plan, size_t words);
 number bench_edges(const uint64_t *plan, size_t words, uint32_t *list, size_t numbers);
-verdict bench_waits(const uint64_t *plan, size_t words, const uint32_t *finished, size_t items, uint64_t item, uint32_t pass);
+waits bench_waits(const uint64_t *plan, size_t words, const uint32_t *finished, size_t items, uint64_t item, uint32_t pass);
 
 enum { PLAN_WORDS = 1668, EDGE_WORDS = 12672, ITEMS = 640 };
 

@@ -8,7 +8,7 @@ ghost use Rattle.plan.specs.Form.{inForm};
 ghost use Rattle.reader.specs.Answer.{Reads};
 ghost use Rattle.graph.specs.Answers.{sizeAnswer, EdgesAnswer, WaitsAnswer};
 use graph::Number;
-use graph::Verdict;
+use graph::Waits;
 use reader::Answer;
 
 #[no_mangle]
@@ -40,7 +40,7 @@ pub extern "C" fn bench_edges(plan: &[u64], list: &mut [u32]) -> Number
 }
 
 #[no_mangle]
-pub extern "C" fn bench_waits(plan: &[u64], finished: &[u32], item: u64, pass: u32) -> Verdict
+pub extern "C" fn bench_waits(plan: &[u64], finished: &[u32], item: u64, pass: u32) -> Waits
     ensures { λ r. ⌜ WaitsAnswer (now (plan .entry)) (now (finished .entry)) item pass r ⌝ }
 {
     graph::waits_met(plan, finished, item, pass)

@@ -32,7 +32,7 @@ module _ (B : Body) where
   copies-apart q g r h l m e =
       (sym (copy-rank q g l) ∙ (ap (λ (x : ℕ). x / B .regions) e ∙ copy-rank r h m), sym (copy-region q g l) ∙ (ap (λ (x : ℕ). x % B .regions) e ∙ copy-region r h m))
 
-  copy-below : (q g : ℕ) → q < B .ranks → g < B .regions → copy B q g < B .ranks * B .regions
+  pub copy-below : (q g : ℕ) → q < B .ranks → g < B .regions → copy B q g < B .ranks * B .regions
   unfolding copy
   copy-below q g l m = let h : suc q * B .regions ≤ B .ranks * B .regions = mul-le-mul-right (B .regions) l in omega (arith, suc-mul q (B .regions))
 

@@ -1,4 +1,4 @@
--- Whether an edge stands, and whether waits are met, as tests of numbers. Nothing here need be believed: `proofs/` shows that they are the
+-- Whether an edge stands, and whether waits are met, as tests of numbers. The crates above go by them; `proofs/` shows that they are the
 -- rule of the crate unroll.
 use Prim.Native.Nat.{ℕ, _+_, _-_}
 use mathlib.Core.Bool.{Bool, cond, not, _&&_, _||_}

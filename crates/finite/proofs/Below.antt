@@ -2,7 +2,7 @@
 -- turn, over a turn, and after its last.
 use Prim.Native.Nat.{ℕ, zero, suc, _+_, _*_, _≤_, _<_}
 use mathlib.Core.Path.{_≡_, refl, sym, _∙_, ap, subst}
-use mathlib.Core.Bool.{Bool, true, false, cond, _&&_, _||_, or-true, and-eq-true-iff, not}
+use mathlib.Core.Bool.{Bool, true, false, cond, _&&_, _||_, or-true, and-true as and-always, and-assoc, and-eq-true-iff, not}
 use mathlib.Core.Logic.{⊎-elim}
 use native.Mathlib.Decide.{decLt, ℕ-discrete}
 use native.Mathlib.Nat.{add-zero, add-suc, zero-mul, suc-mul}
@@ -45,6 +45,16 @@ pub all-of : (p : ℕ → Bool) (n : ℕ) → ((i : ℕ) → i < n → p i ≡ t
 unfolding allBelow
 all-of p zero f = refl
 all-of p (suc n) f = rw (all-of p n (λ i l. f i (omega arith)), f n (omega arith))
+
+pub all-ext : (n : ℕ) (p q : ℕ → Bool) → ((i : ℕ) → i < n → p i ≡ q i) → allBelow n p ≡ allBelow n q
+unfolding allBelow
+all-ext zero p q h = refl
+all-ext (suc n) p q h = rw (all-ext n p q (λ i l. h i (omega arith)), h n (omega arith))
+
+pub all-split : (m n : ℕ) (p : ℕ → Bool) → allBelow (m + n) p ≡ (allBelow m p && allBelow n (λ i. p (m + i)))
+unfolding allBelow
+all-split m zero p = rw add-zero (sym (and-always (allBelow m p)))
+all-split m (suc n) p = rw (add-suc, all-split m n p) (and-assoc (allBelow m p) (allBelow n (λ i. p (m + i))) (p (m + n)))
 
 pub all-fails : (p : ℕ → Bool) (n i : ℕ) → i < n → p i ≡ false → allBelow n p ≡ false
 all-fails p n i l h = false-of (allBelow n p) (λ e. not-both (all-at p n i e l) h)

@@ -80,3 +80,12 @@ pub getD-map : {X Y : Type 0} (f : X → Y) (l : List X) (i : ℕ) (d : X) (e : 
 getD-map f [] i d e h = absurd (omega arith)
 getD-map f (x ∷ l) zero d e h = refl
 getD-map f (x ∷ l) (suc i) d e h = getD-map f l i d e (omega arith)
+
+pub map-gather : {X Y : Type 0} (g : X → Y) (n : ℕ) (p : ℕ → Bool) (f : ℕ → X) → map g (gather n p f) ≡ gather n p (λ k. g (f k))
+unfolding gather
+map-gather g zero p f = refl
+map-gather {X} {Y} g (suc n) p f = map-append g (gather n p f) (cond (p n) (f n ∷ []) []) ∙ ap₂ _++_ (map-gather g n p f) (one (p n))
+  where
+    one : (b : Bool) → map g (cond b (f n ∷ []) []) ≡ cond b (g (f n) ∷ []) []
+    one true = refl
+    one false = refl

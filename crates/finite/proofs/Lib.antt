@@ -6,6 +6,7 @@ pub mod Update
 pub mod Decide
 pub mod Sorted
 pub mod Tabulate
+pub mod Replaced
 pub mod Sums
 pub mod Collect
 pub mod Bits

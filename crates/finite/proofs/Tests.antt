@@ -4,7 +4,8 @@ use mathlib.Core.Bool.{Bool, true, false, _&&_, _||_, true≢false, and-eq-true-
 use mathlib.Core.Logic.{_⊎_, inl, inr}
 use borrow.Author.Tests.{eqb-true, eq-eqb}
 use lib.Dec.{eqb}
-use Prim.Native.Nat.{ℕ}
+use native.Mathlib.Omega.{arith}
+use Prim.Native.Nat.{ℕ, _+_}
 
 unfoldable pub true-or-false : (b : Bool) → (b ≡ true) ⊎ (b ≡ false)
 true-or-false true = inl refl
@@ -47,3 +48,10 @@ or-right false b h e = h
 
 pub eqb-comm : (x y : ℕ) → eqb x y ≡ eqb y x
 eqb-comm x y = test-ext (eqb x y) (eqb y x) (λ e. eq-eqb y x (sym (eqb-true x y e))) (λ e. eq-eqb x y (sym (eqb-true y x e)))
+
+-- numbers from n on
+pub eqb-from : (n a b : ℕ) → eqb (n + a) (n + b) ≡ eqb a b
+eqb-from n a b =
+    test-ext (eqb (n + a) (n + b)) (eqb a b)
+    (λ e. eq-eqb a b (omega (arith, eqb-true (n + a) (n + b) e)))
+    (λ e. eq-eqb (n + a) (n + b) (omega (arith, eqb-true a b e)))

@@ -1,10 +1,10 @@
 -- Functions and lists with some of their values replaced.
-use Prim.Native.Nat.{ℕ, zero, suc}
+use Prim.Native.Nat.{ℕ}
 use mathlib.Core.Bool.{Bool, cond}
 use mathlib.Core.List.{List}
 use lib.Dec.{eqb}
-use lib.ListN.{set}
-use Rattle.finite.specs.Lists.{mem}
+use lib.ListN.{length, getD}
+use Rattle.finite.specs.Lists.{mem, tabulate}
 
 -- a word for each number
 abbrev pub Store : Type 0
@@ -18,7 +18,6 @@ update f a v b = cond (eqb b a) v (f b)
 unfoldable pub put : List ℕ → ℕ → Store → Store
 put l v f x = cond (mem x l) v (f x)
 
--- the list xs with v at f k for each k below n of which p holds
-unfoldable pub putBelow : ℕ → (ℕ → Bool) → (ℕ → ℕ) → ℕ → List ℕ → List ℕ
-putBelow zero p f v xs = xs
-putBelow (suc n) p f v xs = cond (p n) (set (putBelow n p f v xs) (f n) v) (putBelow n p f v xs)
+-- the list xs with f i at each place i of which p holds
+unfoldable pub replaced : (ℕ → Bool) → (ℕ → ℕ) → List ℕ → List ℕ
+replaced p f xs = tabulate (length xs) (λ i. cond (p i) (f i) (getD xs i 0))

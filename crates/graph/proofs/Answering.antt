@@ -1,13 +1,14 @@
 -- The ways to each answer of the public functions. Of a lent plan w, v are the words that are looked at, and f tells whether they are in form.
 use Prim.Native.Nat.{ℕ, _+_, _*_, _/_, _≤_, _<_}
 use mathlib.Core.Path.{_≡_, refl, sym, _∙_, ap, ap₂, subst}
-use mathlib.Core.Bool.{Bool, true, false, not, _&&_, _||_, and-false}
+use mathlib.Core.Bool.{Bool, true, false, cond, not, _&&_, _||_, and-false, and-assoc}
 use mathlib.Core.Logic.{_↔_, ⊎-elim}
-use mathlib.Core.List.{List, _++_, flatMap}
+use mathlib.Core.List.{List, _++_, append-assoc, flatMap}
 use native.Mathlib.Omega.{arith}
 use borrow.Author.Tests.{eqb-true, ltb-true, ltb-false, leb-true, leb-false, eq-eqb, lt-ltb, le-ltb, le-leb, lt-leb, not-true, not-false}
 use lib.Dec.{eqb, ltb, leb}
 use lib.ListN.{length, getD, take, drop, take-append-drop}
+use lib.Seq.{length-take-le, drop-append-le}
 use Rattle.finite.proofs.Tests.{or-cases, or-parts, and-true, and-intro}
 use Rattle.finite.specs.Lists.{collect}
 use Rattle.unroll.specs.Edges.{Edge}
@@ -23,8 +24,9 @@ use Rattle.plan.specs.Form.{inForm}
 use Rattle.graph.specs.declared.Number.{Number}
 use Rattle.graph.specs.declared.Description.{Description}
 use Rattle.graph.specs.declared.Verdict.{Verdict}
-use Rattle.graph.specs.Answers.{edgeWords, maxItems, formedPlan, planBody, isItem, sizeAnswer, describe, noItem, itemAnswer, EdgeAnswer, three, EdgesAnswer, WaitsAnswer}
-use Rattle.graph.specs.Table.{Graph}
+use Rattle.graph.specs.declared.Waits.{Waits}
+use Rattle.graph.specs.Answers.{edgeWords, maxItems, formedPlan, planBody, isItem, sizeAnswer, ItemsAnswer, describe, noItem, itemAnswer, EdgeAnswer, three, EdgesAnswer, noWaits, WaitsAnswer}
+use Rattle.graph.specs.Table.{codeOf, tableOf, Graph}
 use Rattle.graph.specs.Added.{Added}
 use Rattle.graph.specs.Listing.{numbersFrom}
 use Rattle.graph.proofs.Lookup.{form, body-fits}
@@ -53,12 +55,25 @@ edge-short w a b d r h e =
       refused = λ z. ap (λ (x : Verdict). x .holds) e;
     }
 
-pub waits-short : (w finished : List ℕ) (a p : ℕ) (r : Verdict) → (ltb (length w) planWords || ltb (length finished) maxItems) ≡ true → r ≡ record { refusal = 11; holds = false } → WaitsAnswer w finished a p r
+pub waits-short : (w finished : List ℕ) (a p : ℕ) (r : Waits) → (ltb (length w) planWords || ltb (length finished) maxItems) ≡ true → r ≡ noWaits 11 0 → WaitsAnswer w finished a p r
 waits-short w finished a p r h e =
     record {
-      refusal = rw (e, either-short (length w) planWords (length finished) maxItems h);
-      holds = λ z. absurd (let y : _≡_ {A = ℕ} 11 0 = sym (ap (λ (x : Verdict). x .refusal) e) ∙ z in omega arith);
-      refused = λ z. ap (λ (x : Verdict). x .holds) e;
+      refusal = rw (e, short);
+      items = rw (e, ← and-assoc, short);
+      code = λ z. absurd (let y : _≡_ {A = ℕ} 11 0 = sym (ap (λ (x : Waits). x .refusal) e) ∙ z in omega arith);
+      holds = λ z. absurd (let y : _≡_ {A = ℕ} 11 0 = sym (ap (λ (x : Waits). x .refusal) e) ∙ z in omega arith);
+      refused = λ z. (ap (λ (x : Waits). x .code) e, ap (λ (x : Waits). x .holds) e);
+    }
+  where
+    short : (leb planWords (length w) && leb maxItems (length finished)) ≡ false
+    short = either-short (length w) planWords (length finished) maxItems h
+
+pub items-short : (w table : List ℕ) (r : Number) → (ltb (length w) planWords || ltb (length table) maxItems) ≡ true → r ≡ record { refusal = 11; number = 0 } → ItemsAnswer w table r table
+items-short w table r h e =
+    record {
+      refusal = rw (e, either-short (length w) planWords (length table) maxItems h);
+      listed = λ z. absurd (let y : _≡_ {A = ℕ} 11 0 = sym (ap (λ (x : Number). x .refusal) e) ∙ z in omega arith);
+      refused = λ z. (ap (λ (x : Number). x .number) e, refl);
     }
 
 pub edges-short : (w list : List ℕ) (r : Number) → (ltb (length w) planWords || ltb (length list) edgeWords) ≡ true → r ≡ record { refusal = 11; number = 0 } → EdgesAnswer w list r list
@@ -98,12 +113,25 @@ module _ (w v : List ℕ) (f : Bool) (long : planWords ≤ length w) (part : v �
         refused = λ z. ap (λ (x : Verdict). x .holds) e;
       }
 
-  pub waits-unformed : (finished : List ℕ) (a p : ℕ) (r : Verdict) → maxItems ≤ length finished → not f ≡ true → r ≡ record { refusal = 12; holds = false } → WaitsAnswer w finished a p r
+  pub waits-unformed : (finished : List ℕ) (a p : ℕ) (r : Waits) → maxItems ≤ length finished → not f ≡ true → r ≡ noWaits 12 0 → WaitsAnswer w finished a p r
   waits-unformed finished a p r m u e =
       record {
         refusal = rw (e, le-leb planWords (length w) long, le-leb maxItems (length finished) m, unformed u);
-        holds = λ z. absurd (let y : _≡_ {A = ℕ} 12 0 = sym (ap (λ (x : Verdict). x .refusal) e) ∙ z in omega arith);
-        refused = λ z. ap (λ (x : Verdict). x .holds) e;
+        items = rw (e, le-leb planWords (length w) long, le-leb maxItems (length finished) m, unformed u);
+        code = λ z. absurd (let y : _≡_ {A = ℕ} 12 0 = sym (ap (λ (x : Waits). x .refusal) e) ∙ z in omega arith);
+        holds = λ z. absurd (let y : _≡_ {A = ℕ} 12 0 = sym (ap (λ (x : Waits). x .refusal) e) ∙ z in omega arith);
+        refused = λ z. (ap (λ (x : Waits). x .code) e, ap (λ (x : Waits). x .holds) e);
+      }
+
+  -- the first maxItems of the table are lent, and come back as they were
+  pub items-unformed : (table made : List ℕ) (k : ℕ) (r : Number) → maxItems ≤ length table → not f ≡ true
+      → made ≡ cond f (tableOf (bodyOf v) ++ drop k (take maxItems table)) (take maxItems table) → r ≡ record { refusal = 12; number = 0 }
+      → ItemsAnswer w table r (made ++ drop maxItems table)
+  items-unformed table made k r m u t e =
+      record {
+        refusal = rw (e, le-leb planWords (length w) long, le-leb maxItems (length table) m, unformed u);
+        listed = λ z. absurd (let y : _≡_ {A = ℕ} 12 0 = sym (ap (λ (x : Number). x .refusal) e) ∙ z in omega arith);
+        refused = λ z. (ap (λ (x : Number). x .number) e, rw (t, not-true f u) (take-append-drop maxItems table));
       }
 
   pub edges-unformed : (list : List ℕ) (r : Number) → edgeWords ≤ length list → not f ≡ true → r ≡ record { refusal = 12; number = 0 } → EdgesAnswer w list r list
@@ -120,6 +148,28 @@ module _ (w v : List ℕ) (f : Bool) (long : planWords ≤ length w) (part : v �
 
     pub size-formed : (m : ℕ) → m ≡ n → _≡_ {A = Number} (record { refusal = 0; number = m }) (sizeAnswer w)
     size-formed m e = let k : m ≡ itemCount (planBody w) = e ∙ count-is in rw (le-leb planWords (length w) long, is-formed u, k)
+
+    -- all items: the first maxItems of the table are lent
+
+    pub items-told : (table : List ℕ) (m : ℕ) → maxItems ≤ length table → items ≡ cond f (tableOf (bodyOf v) ++ drop n (take maxItems table)) (take maxItems table) → m ≡ n
+        → ItemsAnswer w table (record { refusal = 0; number = m }) (items ++ drop maxItems table)
+    items-told table m room t e =
+        record {
+          refusal = rw (le-leb planWords (length w) long, le-leb maxItems (length table) room, is-formed u);
+          listed = λ z. (e ∙ count-is, whole);
+          refused = λ z. absurd (z refl);
+        }
+      where
+        behind : drop n (take maxItems table) ++ drop maxItems table ≡ drop n table
+        behind =
+            sym (drop-append-le n (take maxItems table) (drop maxItems table) (omega (arith, G .most, length-take-le maxItems table room)))
+            ∙ ap (drop n) (take-append-drop maxItems table)
+
+        whole : items ++ drop maxItems table ≡ tableOf (planBody w) ++ drop (itemCount (planBody w)) table
+        whole =
+            rw (t, not-false f u)
+            (append-assoc (tableOf (bodyOf v)) (drop n (take maxItems table)) (drop maxItems table)
+            ∙ ap₂ _++_ (ap (λ (l : List ℕ). tableOf (bodyOf l)) part) (behind ∙ ap (λ (k : ℕ). drop k table) count-is))
 
     within : (a : ℕ) → a < n → isItem w a ≡ true
     within a h = lt-ltb a (itemCount (planBody w)) (subst (λ (x : ℕ). a < x) count-is h)
@@ -203,19 +253,27 @@ module _ (w v : List ℕ) (f : Bool) (long : planWords ≤ length w) (part : v �
 
     -- waits
 
-    pub waits-beyond : (finished : List ℕ) (a p m : ℕ) (r : Verdict) → maxItems ≤ length finished → m ≡ n → m ≤ a → r ≡ record { refusal = 13; holds = false } → WaitsAnswer w finished a p r
+    pub waits-beyond : (finished : List ℕ) (a p m : ℕ) (r : Waits) → maxItems ≤ length finished → m ≡ n → m ≤ a → r ≡ noWaits 13 m → WaitsAnswer w finished a p r
     waits-beyond finished a p m r room k h e =
         record {
           refusal = rw (e, le-leb planWords (length w) long, le-leb maxItems (length finished) room, is-formed u, beyond a (omega arith));
-          holds = λ z. absurd (let y : _≡_ {A = ℕ} 13 0 = sym (ap (λ (x : Verdict). x .refusal) e) ∙ z in omega arith);
-          refused = λ z. ap (λ (x : Verdict). x .holds) e;
+          items = rw (e, le-leb planWords (length w) long, le-leb maxItems (length finished) room, is-formed u) (k ∙ count-is);
+          code = λ z. absurd (let y : _≡_ {A = ℕ} 13 0 = sym (ap (λ (x : Waits). x .refusal) e) ∙ z in omega arith);
+          holds = λ z. absurd (let y : _≡_ {A = ℕ} 13 0 = sym (ap (λ (x : Waits). x .refusal) e) ∙ z in omega arith);
+          refused = λ z. (ap (λ (x : Waits). x .code) e, ap (λ (x : Waits). x .holds) e);
         }
 
-    pub waits-told : (finished : List ℕ) (a b p m : ℕ) (met : Bool) → maxItems ≤ length finished → m ≡ n → a < m → b ≡ a → met ≡ waitsTest (bodyOf v) (λ c. getD finished c 0) p b
-        → WaitsAnswer w finished a p (record { refusal = 0; holds = met })
-    waits-told finished a b p m met room k h y e =
+    -- the code is read at i, and the waits of item b are tested
+    pub waits-told : (finished : List ℕ) (a i b p m code : ℕ) (met : Bool) → maxItems ≤ length finished → m ≡ n → a < m → i ≡ a → code ≡ getD items i 0 → b ≡ a
+        → met ≡ waitsTest (bodyOf v) (λ c. getD finished c 0) p b → WaitsAnswer w finished a p (record { refusal = 0; items = m; code = code; holds = met })
+    waits-told finished a i b p m code met room k h x q y e =
         record {
           refusal = rw (le-leb planWords (length w) long, le-leb maxItems (length finished) room, is-formed u, within a (omega arith));
+          items = rw (le-leb planWords (length w) long, le-leb maxItems (length finished) room, is-formed u) (k ∙ count-is);
+          code = λ z.
+              q
+              ∙ (ap (λ (j : ℕ). getD items j 0) x
+              ∙ (G .each a (omega arith) ∙ ap (λ (l : List ℕ). codeOf (bodyOf l) (itemAt (bodyOf l) a)) part));
           holds = λ z. (to, from);
           refused = λ z. absurd (z refl);
         }

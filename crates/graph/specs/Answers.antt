@@ -17,6 +17,8 @@ use Rattle.plan.specs.Form.{inForm}
 use Rattle.graph.specs.declared.Number.{Number}
 use Rattle.graph.specs.declared.Description.{Description}
 use Rattle.graph.specs.declared.Verdict.{Verdict}
+use Rattle.graph.specs.declared.Waits.{Waits}
+use Rattle.graph.specs.Table.{codeOf, tableOf}
 
 -- the size of a slice for all edges, three numbers an edge: no plan has more than 4,224 (Laws .room)
 abbrev pub edgeWords : ℕ
@@ -50,6 +52,12 @@ module _ (w : List ℕ) where
   -- the number of items
   abbrev pub sizeAnswer : Number
   sizeAnswer = record { refusal = sizeRefusal; number = cond (eqb sizeRefusal 0) (itemCount planBody) 0 }
+
+-- the numbers of all items in the lent slice `table`, and how many they are; what lies behind them stays
+pub record ItemsAnswer (w table : List ℕ) (r : Number) (table′ : List ℕ) : Type 0 where
+  pub refusal : r .refusal ≡ refusalOf (longPlan w && leb maxItems (length table)) (formedPlan w) true
+  pub listed : r .refusal ≡ 0 → (r .number ≡ itemCount (planBody w)) × (table′ ≡ tableOf (planBody w) ++ drop (itemCount (planBody w)) table)
+  pub refused : (r .refusal ≡ 0 → ⊥) → (r .number ≡ 0) × (table′ ≡ table)
 
 -- of a send or receive the region and the other rank of its transfer, of a task 0
 abbrev pub regionOf : Item → ℕ
@@ -108,9 +116,14 @@ pub record EdgesAnswer (w list : List ℕ) (r : Number) (list′ : List ℕ) : T
       × (list′ ≡ flatMap three l ++ drop (3 * length l) list)
   pub refused : (r .refusal ≡ 0 → ⊥) → (r .number ≡ 0) × (list′ ≡ list)
 
--- whether the finished passes, a number for each item, meet every wait of item a before it may start pass p. That the counts are those of a
--- state in form, and p the item's next pass, is for the caller to see to
-pub record WaitsAnswer (w finished : List ℕ) (a p : ℕ) (r : Verdict) : Type 0 where
+abbrev pub noWaits : ℕ → ℕ → Waits
+noWaits n items = record { refusal = n; items = items; code = 0; holds = false }
+
+-- whether the finished passes, a number for each item, meet every wait of item a before it may start pass p; besides, the number of items and
+-- a's in the item table. That the counts are those of a state in form, and p the item's next pass, is for the caller to see to
+pub record WaitsAnswer (w finished : List ℕ) (a p : ℕ) (r : Waits) : Type 0 where
   pub refusal : r .refusal ≡ refusalOf (longPlan w && leb maxItems (length finished)) (formedPlan w) (isItem w a)
+  pub items : r .items ≡ cond (longPlan w && (leb maxItems (length finished) && formedPlan w)) (itemCount (planBody w)) 0
+  pub code : r .refusal ≡ 0 → r .code ≡ codeOf (planBody w) (itemAt (planBody w) a)
   pub holds : r .refusal ≡ 0 → (r .holds ≡ true) ↔ WaitsMet (planBody w) (λ b. getD finished b 0) a p
-  pub refused : (r .refusal ≡ 0 → ⊥) → r .holds ≡ false
+  pub refused : (r .refusal ≡ 0 → ⊥) → (r .code ≡ 0) × (r .holds ≡ false)

@@ -1,6 +1,6 @@
+pub mod Table
 pub mod Answers
 pub mod Laws
-pub mod Table
 pub mod Added
 pub mod Codes
 pub mod Rows

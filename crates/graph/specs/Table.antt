@@ -1,12 +1,12 @@
--- The item table: a number for each item, its rank, kind, and task or region. It serves the contracts of private functions: nothing that
--- a reader must believe.
+-- The item table: a number for each item, its rank, kind, and task or region. It serves the crates above and the contracts of private
+-- functions: nothing that a reader of the demands must believe.
 use Prim.Native.Nat.{ℕ, _+_, _*_, _≤_, _<_}
 use mathlib.Core.Path.{_≡_}
 use mathlib.Core.Bool.{true}
-use mathlib.Core.List.{List}
+use mathlib.Core.List.{List, map}
 use lib.ListN.{length, getD}
 use Rattle.body.specs.Body.{Body}
-use Rattle.body.specs.Items.{Item, task, send, receive, kindOf, itemRank, itemCount, itemAt}
+use Rattle.body.specs.Items.{Item, task, send, receive, kindOf, itemRank, itemList, itemCount, itemAt}
 use Rattle.plan.specs.Layout.{planWords, bodyOf}
 use Rattle.plan.specs.Form.{inForm}
 
@@ -18,6 +18,10 @@ subjectOf (receive i g q) = g
 
 unfoldable pub codeOf : Body → Item → ℕ
 codeOf B x = 512 * itemRank B x + (128 * kindOf x + subjectOf x)
+
+-- the numbers of all items
+abbrev pub tableOf : Body → List ℕ
+tableOf B = map (codeOf B) (itemList B)
 
 -- words in form, and a table of their items
 pub record Graph (w items : List ℕ) (n : ℕ) : Type 0 where

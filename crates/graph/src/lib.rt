@@ -4,7 +4,7 @@ ghost use mathlib.Core.Path.{_≡_};
 ghost use mathlib.Core.Bool.{false};
 ghost use lib.Dec.{eqb};
 ghost use Rattle.edges.specs.Tests.{distance};
-ghost use Rattle.graph.specs.Answers.{noItem, sizeAnswer, itemAnswer, EdgeAnswer, EdgesAnswer, WaitsAnswer};
+ghost use Rattle.graph.specs.Answers.{noItem, sizeAnswer, ItemsAnswer, itemAnswer, EdgeAnswer, EdgesAnswer, noWaits, WaitsAnswer};
 
 mod describe;
 mod list;
@@ -15,6 +15,7 @@ mod verdicts;
 
 use crate::numbers::as_index;
 use crate::numbers::as_word;
+use crate::numbers::wide_16;
 use crate::table::make_table;
 use plan::limits::PLAN_WORDS;
 
@@ -35,6 +36,16 @@ pub struct Number {
 #[repr(C)]
 pub struct Verdict {
     pub refusal: u64,
+    pub holds: bool,
+}
+
+// Whether the waits of an item are met, with refusal 0, and its number in the item table; the number of items comes with refusal 13 too. Else
+// zeros.
+#[repr(C)]
+pub struct Waits {
+    pub refusal: u64,
+    pub items: u64,
+    pub code: u64,
     pub holds: bool,
 }
 
@@ -68,6 +79,17 @@ fn no_verdict(refusal: u64) -> Verdict
     }
 }
 
+fn no_waits(refusal: u64, items: u64) -> Waits
+    ensures { λ r. ⌜ r ≡ noWaits refusal items ⌝ }
+{
+    Waits {
+        refusal: refusal,
+        items: items,
+        code: 0,
+        holds: false,
+    }
+}
+
 fn no_item(refusal: u64) -> Description
     ensures { λ r. ⌜ r ≡ noItem refusal ⌝ }
 {
@@ -97,6 +119,23 @@ pub fn size(plan: &[u64]) -> Number
     Number {
         refusal: 0,
         number: as_word(made.count),
+    }
+}
+
+// All items: a number for each in the lent table (specs/Table.antt), and how many they are. What lies behind them stays.
+pub fn items(plan: &[u64], table: &mut [u16]) -> Number
+    ensures { λ r. ⌜ ItemsAnswer (now (plan .entry)) (now (table .entry)) r (now (table .exit)) ⌝ }
+{
+    if (plan.len() < PLAN_WORDS) | (table.len() < MAX_ITEMS) {
+        return no_number(11);
+    }
+    let listed = make_table(&plan[..PLAN_WORDS], &mut table[..MAX_ITEMS]);
+    if !listed.formed {
+        return no_number(12);
+    }
+    Number {
+        refusal: 0,
+        number: as_word(listed.count),
     }
 }
 
@@ -175,23 +214,26 @@ pub fn edges(plan: &[u64], list: &mut [u32]) -> Number
 
 // Whether the finished passes, a number for each item, meet every wait of item a before it may start a pass. The pass is not compared with the
 // item's own counts.
-pub fn waits_met(plan: &[u64], finished: &[u32], a: u64, pass: u32) -> Verdict
+pub fn waits_met(plan: &[u64], finished: &[u32], a: u64, pass: u32) -> Waits
     ensures { λ r. ⌜ WaitsAnswer (now (plan .entry)) (now (finished .entry)) a pass r ⌝ }
 {
     if (plan.len() < PLAN_WORDS) | (finished.len() < MAX_ITEMS) {
-        return no_verdict(11);
+        return no_waits(11, 0);
     }
     let words = &plan[..PLAN_WORDS];
     let mut items = [0u16; MAX_ITEMS];
     let made = make_table(words, &mut items);
     if !made.formed {
-        return no_verdict(12);
+        return no_waits(12, 0);
     }
-    if a >= as_word(made.count) {
-        return no_verdict(13);
+    let n = as_word(made.count);
+    if a >= n {
+        return no_waits(13, n);
     }
-    Verdict {
+    Waits {
         refusal: 0,
+        items: n,
+        code: wide_16(items[as_index(a)]),
         holds: verdicts::waits_met(words, &items, made.count, as_index(a), pass, finished),
     }
 }

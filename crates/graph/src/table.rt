@@ -1,14 +1,14 @@
 // The item table: for each item its rank, kind, and task or region in one number (specs/Table.antt), put there in the order of the items.
 ghost use Prim.Native.Nat.{_+_, _≤_, _<_};
 ghost use mathlib.Core.Path.{_≡_};
-ghost use mathlib.Core.Bool.{true};
-ghost use mathlib.Core.List.{_∷_, []};
-ghost use lib.ListN.{length};
+ghost use mathlib.Core.Bool.{true, cond};
+ghost use mathlib.Core.List.{_∷_, [], _++_};
+ghost use lib.ListN.{length, drop};
 ghost use Rattle.finite.specs.Lists.{collect};
-ghost use Rattle.plan.specs.Layout.{planWords, rankOf, tasksOf};
+ghost use Rattle.plan.specs.Layout.{planWords, rankOf, tasksOf, bodyOf};
 ghost use Rattle.plan.specs.Form.{inForm};
 ghost use Rattle.graph.specs.Added.{Added};
-ghost use Rattle.graph.specs.Table.{Graph};
+ghost use Rattle.graph.specs.Table.{tableOf, Graph};
 ghost use Rattle.graph.specs.Codes.{pairCodes, maskCodes, accessCodes, taskCodes, allCodes, Coded};
 use crate::numbers::as_index;
 use crate::numbers::as_word;
@@ -112,6 +112,7 @@ pub(crate) fn make_table(plan: &[u64], items: &mut [u16]) -> Made
     ensures { λ r. ⌜
         (r .formed ≡ inForm (now (plan .entry)))
         × (r .formed ≡ true → Graph (now (plan .entry)) (now (items .exit)) (r .count))
+        × (now (items .exit) ≡ cond (r .formed) (tableOf (bodyOf (now (plan .entry))) ++ drop (r .count) (now (items .entry))) (now (items .entry)))
         ⌝ }
 {
     let mut masks = [0u16; 1024];

@@ -2,7 +2,6 @@
 // how many edges stand where each pair of items is asked about; how many items wait for nothing before pass 0 with nothing finished, and before
 // pass 1 with pass 0 finished, and with nothing finished.
 use graph::Description;
-use graph::Verdict;
 ghost use Prim.Native.Nat.{_+_, _<_};
 ghost use mathlib.Core.Path.{_≡_};
 ghost use mathlib.Core.Bool.{cond, _&&_, _||_};
@@ -80,10 +79,10 @@ fn print_edges(list: &[u32], n: u64) {
 }
 
 // 1 where it holds.
-fn one_if(answer: Verdict) -> u64
-    ensures { λ r. ⌜ r ≡ cond (answer .holds) 1 0 ⌝ }
+fn one_if(holds: bool) -> u64
+    ensures { λ r. ⌜ r ≡ cond holds 1 0 ⌝ }
 {
-    if answer.holds {
+    if holds {
         return 1;
     }
     0
@@ -93,8 +92,8 @@ fn one_if(answer: Verdict) -> u64
 fn count_from(plan: &[u64], a: u64, n: u64) -> u64 {
     let mut count: u64 = 0;
     for b in 0..n {
-        count = std::num::wrapping_add_u64(count, one_if(graph::edge(plan, a, b, 0)));
-        count = std::num::wrapping_add_u64(count, one_if(graph::edge(plan, a, b, 1)));
+        count = std::num::wrapping_add_u64(count, one_if(graph::edge(plan, a, b, 0).holds));
+        count = std::num::wrapping_add_u64(count, one_if(graph::edge(plan, a, b, 1).holds));
     }
     count
 }
@@ -114,7 +113,7 @@ fn count_ready(plan: &[u64], n: u64, finished: &[u32], pass: u32) -> u64 {
     for a in 0..n {
         count = std::num::wrapping_add_u64(
             count,
-            one_if(graph::waits_met(plan, finished, a, pass)),
+            one_if(graph::waits_met(plan, finished, a, pass).holds),
         );
     }
     count

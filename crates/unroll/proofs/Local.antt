@@ -65,7 +65,7 @@ module _ (S : System) where
       }
   agree-can s t (finish a) r k = record { in-range = k .in-range; running = omega (arith, k .running, r .started a (k .in-range), r .finished a (k .in-range)) }
 
-  agree-word : (s t : State) (a : ℕ) → a < S .items → Agree S s t → wordOn S a (s .places) ≡ wordOn S a (t .places)
+  pub agree-word : (s t : State) (a : ℕ) → a < S .items → Agree S s t → wordOn S a (s .places) ≡ wordOn S a (t .places)
   unfolding wordOn
   agree-word s t a l r = ap (S .compute a) (map-ext (s .places) (t .places) (S .reads a) (λ x h. r .places a x l (reading h)))
 
