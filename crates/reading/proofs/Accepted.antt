@@ -1,11 +1,11 @@
 -- What is read keeps the limits.
-use Prim.Native.Nat.{ℕ, zero, suc, _+_, _-_, _≤_, _<_}
-use mathlib.Core.Path.{_≡_, refl, subst}
-use mathlib.Core.Bool.{Bool, true, false, not, cond}
-use mathlib.Core.List.{List, [], _∷_, _++_}
+use Prim.Native.Nat.{ℕ, _<_}
+use mathlib.Core.Path.{_≡_, refl}
+use mathlib.Core.Bool.{Bool, true, false, not}
+use mathlib.Core.List.{[], _∷_, _++_}
 use native.Mathlib.Omega.{arith}
 use borrow.Author.Tests.{ltb-true, le-leb, not-true}
-use lib.Dec.{eqb, leb, ltb}
+use lib.Dec.{leb, ltb}
 use lib.ListN.{length, length-append}
 use Rattle.text.specs.declared.Number.{Number}
 use Rattle.text.specs.declared.Number.the-variants.{Value, TooLarge, Malformed}
@@ -15,13 +15,9 @@ use Rattle.finite.specs.Lists.{distinct, mem}
 use Rattle.finite.proofs.Members.{distinct-snoc}
 use Rattle.finite.proofs.Tabulate.{map-append}
 use Rattle.finite.proofs.Tests.{and-intro, and-true, not-both}
-use Rattle.body.specs.Transfers.{transferCount}
 use Rattle.kernels.specs.Kernels.{suits}
-use Rattle.text.specs.Records.{recordOf, split}
-use Rattle.plan.specs.Layout.{bodyOf}
-use Rattle.plan.specs.Limits.{maxTransfers}
-use Rattle.reading.specs.Plan.{Plan, Task, named, readCount, started, wordsOf}
-use Rattle.reading.specs.Reading.{Reading, State, Step, accepted, atEnd, below, closed, first, isEmpty, isWord, lies, need, newTask, next, noTaskYet, onStep, opened, readFrom, readOf, refuse, refused, step, valueOf, withAccess, withLoop, withStart, withTask}
+use Rattle.reading.specs.Plan.{Plan, Task, named, readCount, started}
+use Rattle.reading.specs.Reading.{State, Step, below, closed, first, isWord, lies, need, newTask, next, noTaskYet, opened, refuse, step, valueOf, withAccess, withLoop, withStart, withTask}
 use Rattle.reading.specs.Valid.{accessFits, inWord, openFits, startFits, taskFits}
 use Rattle.reading.proofs.Limits.{Limits, Opens, is-open}
 use Rattle.reading.proofs.Lists.{every-snoc}
@@ -139,50 +135,3 @@ step-good (opened P t) (Record.Access m g) l =
     further P t (withAccess t m (valueOf g)) l (access-good (P .ranks) (P .regions) t m (valueOf g) (l .2) (below-value (P .regions) g a) b (not-true _ c))
 step-good (opened P t) End l = good-need _ _ _ λ a. task-good P t (l .0) (l .1) (l .2) a
 step-good (opened P t) Unreadable l = tt
-
--- an accepted plan
-pub record Kept (w : List ℕ) : Type 0 where
-  pub plan : Plan
-  pub limits : Limits plan
-  pub some : 1 ≤ length (plan .tasks)
-  pub transfers : leb (transferCount (bodyOf (wordsOf plan))) maxTransfers ≡ true
-  pub words : w ≡ wordsOf plan
-
-abbrev pub goodReading : Reading → Type 0
-goodReading (accepted w) = Kept w
-goodReading (refused n m) = Unit
-
-end-good : (n : ℕ) (s : State) → good s → goodReading (atEnd n s)
-end-good n first u = tt
-end-good n (opened P t) u = tt
-end-good n (closed P) l = go (noTaskYet P) refl (leb (transferCount (bodyOf (wordsOf P))) maxTransfers) refl
-  where
-    go : (a : Bool) → noTaskYet P ≡ a → (b : Bool) → leb (transferCount (bodyOf (wordsOf P))) maxTransfers ≡ b → goodReading (cond a (refused 8 n) (cond b (accepted (wordsOf P)) (refused 10 n)))
-    go true e b f = tt
-    go false e true f = record { plan = P; limits = l; some = some (length (P .tasks)) e; transfers = f; words = refl }
-      where
-        some : (k : ℕ) → eqb k 0 ≡ false → 1 ≤ k
-        some zero e = absurd (not-both refl e)
-        some (suc k) e = omega arith
-    go false e false f = tt
-
-on-good : (n : ℕ) (k : State → Reading) (x : Step) → goodStep x → ((s : State) → good s → goodReading (k s)) → goodReading (onStep n k x)
-on-good n k (next s) h f = f s h
-on-good n k (refuse m) h f = tt
-
-read-good : (ls : List (List ℕ)) (n : ℕ) (s : State) → good s → goodReading (readFrom n s ls)
-read-good [] n s h = tt
-read-good (l ∷ []) n s h = go (isEmpty l)
-  where
-    go : (t : Bool) → goodReading (cond t (atEnd n s) (refused 1 n))
-    go true = end-good n s h
-    go false = tt
-read-good (l ∷ m ∷ ls) n s h = on-good n (λ t. readFrom (n + 1) t (m ∷ ls)) (step s (recordOf l)) (step-good s (recordOf l) h) (λ t k. read-good (m ∷ ls) (n + 1) t k)
-
-pub accepted-kept : (text w : List ℕ) → readOf text ≡ accepted w → Kept w
-unfolding readOf
-accepted-kept text w e = subst goodReading e (go (ltb 32768 (length text)))
-  where
-    go : (t : Bool) → goodReading (cond t (refused 10 0) (readFrom 1 first (split 10 text)))
-    go true = tt
-    go false = read-good (split 10 text) 1 first tt

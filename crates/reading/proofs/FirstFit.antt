@@ -2,29 +2,29 @@
 use Rattle.text.specs.declared.Record.{Record}
 use Rattle.text.specs.declared.Record.the-variants.{Loop, Begin, End, Unreadable}
 use mathlib.Core.Path.{refl, sym, ap, subst, _≡_, _∙_}
-use borrow.Author.Tests.{lt-ltb, le-ltb}
+use borrow.Author.Tests.{eqb-false, lt-ltb, le-ltb}
 use lib.ListN.{length}
 use lib.Dec.{ltb, leb, eqb·suc-zero}
 use mathlib.Core.Bool.{Bool, true, false, cond, not, _&&_}
 use mathlib.Core.List.{List, [], _∷_, _++_, append-nil, append-assoc}
 use native.Mathlib.Omega.{arith}
 use Prim.Native.Nat.{ℕ, zero, suc, _+_, _≤_, _<_}
-use mathlib.Core.Logic.{inl, inr}
 use Rattle.finite.specs.Lists.{mem}
 use Rattle.body.specs.Transfers.{transferCount}
 use Rattle.kernels.specs.Kernels.{suits}
 use Rattle.text.specs.Records.{recordOf, split}
-use Rattle.text.specs.Text.{before}
 use Rattle.plan.specs.Layout.{bodyOf}
 use Rattle.plan.specs.Limits.{maxAccesses, maxBytes, maxKernel, maxPasses, maxRanks, maxRegions, maxTasks, maxTransfers}
 use Rattle.reading.specs.Laws.{Answers}
 use Rattle.reading.specs.Plan.{Access, Plan, Start, Task, named, readCount, started, wordsOf}
 use Rattle.reading.specs.Reading.{Reading, State, Step, accepted, atEnd, below, closed, first, isWord, lies, need, next, noTaskYet, onStep, opened, readFrom, readOf, refuse, refused, step, valueOf}
 use Rattle.reading.specs.Refusals.{Fit, Last, begins, countOf, firstFit, fitAt, fitFrom, isBegin, isEnd, isOpen, lastFit, lastFrom, lastTask, noFit, startsSaid}
-use Rattle.reading.specs.Written.{accessRecords, records, startRecords, taskRecords}
+use Rattle.reading.specs.Written.{accessRecords, line, records, startRecords, taskRecords, textFrom}
 use Rattle.reading.proofs.Accepted.{good, goodStep, step-good}
+use Rattle.reading.proofs.Adds.{Adds, openRecords, recordsOf, step-adds}
+use Rattle.reading.proofs.Limits.{is-valid}
 use Rattle.reading.proofs.Numbers.{KnownStep, known-step}
-use Rattle.reading.proofs.Says.{Adds, openRecords, recordsOf, step-adds}
+use Rattle.reading.proofs.Unique.{join, join-split, line-back}
 
 -- what records say, of lists put together
 count-append : (p : Record → Bool) (l k : List Record) → countOf p (l ++ k) ≡ countOf p l + countOf p k
@@ -165,42 +165,54 @@ step-fits (opened P t) (Record.Access m g) =
 step-fits (opened P t) End = rw (open-plan P t, last-open P t) (fits-need (suits (t .kernel) (readCount (t .accesses))) 9 0 _ refl)
 step-fits (opened P t) Unreadable = refl
 
-answers-end : (n : ℕ) (s : State) → Answers (atEnd n s) (fitAt (lastFit (recordsOf s)) n (noFit n))
-answers-end n first = refl
-answers-end n (opened P t) = rw (open-plan P t)
-answers-end n (closed P) = rw (closed-plan P, begins-plan P) (go (noTaskYet P) (leb (transferCount (bodyOf (wordsOf P))) maxTransfers))
-  where
-    go : (a b : Bool) → Answers (cond a (refused 8 n) (cond b (accepted (wordsOf P)) (refused 10 n))) (fitAt (cond a 8 0) n (noFit n))
-    go true b = refl
-    go false true = inr (wordsOf P, refl)
-    go false false = inl refl
+-- the text of records with one more at their end
+text-snoc : (rs : List Record) (r : Record) (rest : List ℕ) → textFrom (rs ++ (r ∷ [])) ++ rest ≡ textFrom rs ++ (line r ++ (10 ∷ rest))
+text-snoc [] r rest = append-assoc (line r) (10 ∷ []) rest
+text-snoc (x ∷ rs) r rest =
+    append-assoc (line x) (10 ∷ textFrom (rs ++ (r ∷ []))) rest
+    ∙ ap (λ (t : List ℕ). line x ++ (10 ∷ t)) (text-snoc rs r rest)
+    ∙ sym (append-assoc (line x) (10 ∷ textFrom rs) (line r ++ (10 ∷ rest)))
 
-answers-on : (n k : ℕ) (j : State → Reading) (f : Fit) (x : Step) → StepFits x k → KnownStep x → ((s : State) → x ≡ next s → Answers (j s) f) → Answers (onStep n j x) (fitAt k n f)
-answers-on n k j f (next s) e d h = rw e (h s refl)
-answers-on n k j f (refuse m) e d h = rw e (known m (d .0))
-  where
-    known : (m : ℕ) → 1 ≤ m → Answers (refused m n) (fitAt m n f)
-    known zero l = absurd (omega arith)
-    known (suc m) l = refl
+-- the whole text is that of the records read, then the lines left
+module _ (text : List ℕ) where
+  answers-end : (n : ℕ) (s : State) → good s → text ≡ textFrom (recordsOf s) → Answers text (atEnd n s) (fitAt (lastFit (recordsOf s)) n (noFit n))
+  answers-end n first G e = refl
+  answers-end n (opened P t) G e = rw (open-plan P t)
+  answers-end n (closed P) G e = rw (closed-plan P, begins-plan P) (go (noTaskYet P) refl)
+    where
+      go : (a : Bool) → noTaskYet P ≡ a →
+          Answers text (cond a (refused 8 n) (cond (leb (transferCount (bodyOf (wordsOf P))) maxTransfers) (accepted (wordsOf P)) (refused 10 n))) (fitAt (cond a 8 0) n (noFit n))
+      go true h = refl
+      go false h = (P, e, is-valid P G, omega (arith, eqb-false (length (P .tasks)) 0 h), refl)
 
-answers : (ls : List (List ℕ)) (n : ℕ) (s : State) → good s → Answers (readFrom n s ls) (fitFrom n (recordsOf s) ls)
-answers [] n s G = refl
-answers ([] ∷ []) n s G = answers-end n s
-answers ((c ∷ l) ∷ []) n s G = refl
-answers (l ∷ m ∷ ls) n s G =
-    answers-on n (firstFit (recordsOf s) (recordOf l)) (λ t. readFrom (n + 1) t (m ∷ ls)) (fitFrom (n + 1) (recordsOf s ++ (recordOf l ∷ [])) (m ∷ ls)) (step s (recordOf l))
-    (step-fits s (recordOf l)) (known-step s (recordOf l)) (λ t e. go t e (answers (m ∷ ls) (n + 1) t))
-  where
-    go : (t : State) → step s (recordOf l) ≡ next t → (good t → Answers (readFrom (n + 1) t (m ∷ ls)) (fitFrom (n + 1) (recordsOf t) (m ∷ ls))) →
-        Answers (readFrom (n + 1) t (m ∷ ls)) (fitFrom (n + 1) (recordsOf s ++ (recordOf l ∷ [])) (m ∷ ls))
-    go t e h =
-        let a : Adds (recordsOf s) (recordOf l) (next t) = subst (Adds (recordsOf s) (recordOf l)) e (step-adds s (recordOf l) G) in
-        let g : goodStep (next t) = subst goodStep e (step-good s (recordOf l) G) in
-        subst (λ rs. Answers (readFrom (n + 1) t (m ∷ ls)) (fitFrom (n + 1) rs (m ∷ ls))) (a .0) (h g)
+  answers-on : (n k : ℕ) (j : State → Reading) (f : Fit) (x : Step) → StepFits x k → KnownStep x → ((s : State) → x ≡ next s → Answers text (j s) f) → Answers text (onStep n j x) (fitAt k n f)
+  answers-on n k j f (next s) e d h = rw e (h s refl)
+  answers-on n k j f (refuse m) e d h = rw e (known m (d .0))
+    where
+      known : (m : ℕ) → 1 ≤ m → Answers text (refused m n) (fitAt m n f)
+      known zero l = absurd (omega arith)
+      known (suc m) l = refl
 
-pub read-answers : (text : List ℕ) → length text ≤ maxBytes → Answers (readOf text) (fitFrom 1 [] (split 10 text))
+  answers : (ls : List (List ℕ)) (n : ℕ) (s : State) → good s → text ≡ textFrom (recordsOf s) ++ join 10 ls → Answers text (readFrom n s ls) (fitFrom n (recordsOf s) ls)
+  answers [] n s G e = refl
+  answers ([] ∷ []) n s G e = answers-end n s G (e ∙ append-nil (textFrom (recordsOf s)))
+  answers ((c ∷ l) ∷ []) n s G e = refl
+  answers (l ∷ m ∷ ls) n s G e =
+      answers-on n (firstFit (recordsOf s) (recordOf l)) (λ t. readFrom (n + 1) t (m ∷ ls)) (fitFrom (n + 1) (recordsOf s ++ (recordOf l ∷ [])) (m ∷ ls)) (step s (recordOf l))
+      (step-fits s (recordOf l)) (known-step s (recordOf l)) (λ t h. go t h (answers (m ∷ ls) (n + 1) t))
+    where
+      go : (t : State) → step s (recordOf l) ≡ next t →
+          (good t → text ≡ textFrom (recordsOf t) ++ join 10 (m ∷ ls) → Answers text (readFrom (n + 1) t (m ∷ ls)) (fitFrom (n + 1) (recordsOf t) (m ∷ ls))) →
+          Answers text (readFrom (n + 1) t (m ∷ ls)) (fitFrom (n + 1) (recordsOf s ++ (recordOf l ∷ [])) (m ∷ ls))
+      go t h ih =
+          let a : Adds (recordsOf s) (recordOf l) (next t) = subst (Adds (recordsOf s) (recordOf l)) h (step-adds s (recordOf l) G) in
+          let g : goodStep (next t) = subst goodStep h (step-good s (recordOf l) G) in
+          let b : text ≡ textFrom (recordsOf t) ++ join 10 (m ∷ ls) = rw (a .0, text-snoc (recordsOf s) (recordOf l) (join 10 (m ∷ ls)), sym (line-back l (a .1))) e in
+          subst (λ rs. Answers text (readFrom (n + 1) t (m ∷ ls)) (fitFrom (n + 1) rs (m ∷ ls))) (a .0) (ih g b)
+
+pub read-answers : (text : List ℕ) → length text ≤ maxBytes → Answers text (readOf text) (fitFrom 1 [] (split 10 text))
 unfolding readOf
-read-answers text h = rw (le-ltb maxBytes (length text) h) (answers (split 10 text) 1 first tt)
+read-answers text h = rw (le-ltb maxBytes (length text) h) (answers text (split 10 text) 1 first tt (sym (join-split 10 text)))
 
 pub too-long : (text : List ℕ) → maxBytes < length text → readOf text ≡ refused 10 0
 unfolding readOf

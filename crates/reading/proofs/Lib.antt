@@ -12,6 +12,7 @@ pub mod Round
 pub mod Forms
 pub mod Theorems
 pub mod Unique
+pub mod Adds
 pub mod Says
 pub mod Holds
 pub mod Cases

@@ -4,7 +4,7 @@ use mathlib.Core.Path.{_≡_, refl}
 use mathlib.Core.Bool.{Bool, true, false, cond}
 use mathlib.Core.List.{List, [], _∷_}
 use native.Mathlib.Omega.{arith}
-use borrow.Author.Tests.{leb-true, ltb-true, ltb-false, lt-ltb}
+use borrow.Author.Tests.{leb-true, le-leb, ltb-true, ltb-false, lt-ltb}
 use lib.Dec.{ltb, leb}
 use lib.ListN.{length, getD, replicate, List·getD-map, List·getD-eq-default}
 use Rattle.reading.proofs.Round as Round
@@ -22,7 +22,6 @@ use Rattle.reading.specs.Plan.{Plan, Task, accessWord, noTask, startAt, 
 use Rattle.reading.specs.Reading.{accepted, readOf}
 use Rattle.reading.specs.Valid.{accessFits, every, openFits, taskFits}
 use Rattle.reading.specs.Written.{textOf}
-use Rattle.reading.proofs.Accepted.{accepted-kept}
 use Rattle.reading.proofs.Back.{is-canonical, noAccess, word-at}
 use Rattle.reading.proofs.FirstFit.{read-answers, too-long}
 use Rattle.reading.proofs.Forms.{canonical-ok, mode-few, ok-canonical}
@@ -98,7 +97,7 @@ module _ (P : Plan) (L : Limits P) where
   plan-words = record { size = words-size P; fits = words-fit }
 
 words : (text w : List ℕ) → readOf text ≡ accepted w → Words w
-words text w e = let k = accepted-kept text w e in rw (k .words) (plan-words (k .plan) (k .limits))
+words text w e = let (P, S, k) = accepted-says text w e in rw k (plan-words P (limits P (S .within)))
 
 pub form-parts : (w : List ℕ) → inForm w ≡ true → (wordsOk w ≡ true) × (leb (transferCount (bodyOf w)) maxTransfers ≡ true)
 unfolding inForm
@@ -114,8 +113,8 @@ plan-ok P L s = canonical-ok (wordsOf P) (is-canonical P L s)
 
 in-form : (text w : List ℕ) → readOf text ≡ accepted w → inForm w ≡ true
 in-form text w e =
-    let k = accepted-kept text w e in
-    rw (k .words) (form-of (wordsOf (k .plan)) (plan-ok (k .plan) (k .limits) (k .some)) (k .transfers))
+    let (P, S, k) = accepted-says text w e in
+    rw k (form-of (wordsOf P) (plan-ok P (limits P (S .within)) (S .some)) (le-leb _ maxTransfers (S .transfers)))
 
 reads-back : (w : List ℕ) → Words w → inForm w ≡ true → readOf (textOf w) ≡ accepted w
 reads-back w W h = let f = form-parts w h in Round.reads-back w (ok-canonical w W (f .0)) (f .1)

@@ -1,9 +1,10 @@
 -- What is proved of reading, of words in form, and of the written text.
 use Prim.Native.Nat.{ℕ, _≤_, _<_}
 use mathlib.Core.Path.{_≡_}
-use mathlib.Core.Bool.{true, false}
-use mathlib.Core.Logic.{_↔_, _⊎_}
+use mathlib.Core.Bool.{true, false, cond}
+use mathlib.Core.Logic.{_↔_}
 use mathlib.Core.List.{List, []}
+use lib.Dec.{leb}
 use lib.ListN.{length, replicate}
 use Rattle.body.specs.Body.{Fits}
 use Rattle.body.specs.Transfers.{transferCount}
@@ -15,7 +16,7 @@ use Rattle.reading.specs.Plan.{Plan, readMode, regionsWhere, startAt, ta
 use Rattle.reading.specs.Reading.{Reading, accepted, readOf, refused}
 use Rattle.reading.specs.Refusals.{Fit, fit, fitFrom, noFit}
 use Rattle.reading.specs.Valid.{valid}
-use Rattle.reading.specs.Written.{line, records, textFrom, textOf}
+use Rattle.reading.specs.Written.{records, textFrom, textOf}
 
 -- the text says the plan P: its lines are those of P's records in their order, and no limit is exceeded
 pub record Says (text : List ℕ) (P : Plan) : Type 0 where
@@ -39,19 +40,21 @@ pub record Holds (w : List ℕ) (P : Plan) : Type 0 where
   pub reads : (i : ℕ) → i < length (P .tasks) → readsOf w i ≡ regionsWhere readMode (taskAt (P .tasks) i .accesses)
   pub writes : (i : ℕ) → i < length (P .tasks) → writesOf w i ≡ regionsWhere writeMode (taskAt (P .tasks) i .accesses)
 
--- what reading answers, by what fits
-abbrev pub Answers : Reading → Fit → Type 0
-Answers r (fit n line) = r ≡ refused n line
-Answers r (noFit line) = (r ≡ refused 10 line) ⊎ ((w : List ℕ) × (r ≡ accepted w))
+-- what reading answers to the text, by what fits: where nothing does, the text is that of a valid plan with a task, and its transfers alone decide
+abbrev pub Answers : List ℕ → Reading → Fit → Type 0
+Answers text r (fit n line) = r ≡ refused n line
+Answers text r (noFit line) =
+    (P : Plan) × (text ≡ textFrom (records P)) × (valid P ≡ true) × (1 ≤ length (P .tasks))
+    × (r ≡ cond (leb (transferCount (bodyOf (wordsOf P))) maxTransfers) (accepted (wordsOf P)) (refused 10 line))
 
 pub record Laws : Type 0 where
   -- a text is accepted exactly if it says a plan, and is read to that plan's words
   pub accepts : (text w : List ℕ) → (readOf text ≡ accepted w) ↔ ((P : Plan) × Says text P × (w ≡ wordsOf P))
   pub holds : (P : Plan) → valid P ≡ true → Holds (wordsOf P) P
-  -- a text too long is refused before any line. Else the answer is the first refusal that fits; where none fits the text is accepted, or has
-  -- too many transfers
+  -- a text too long is refused before any line. Else the answer is the first refusal that fits; where none fits the text is a plan's, and
+  -- accepted exactly if that plan has not too many transfers
   pub too-long : (text : List ℕ) → maxBytes < length text → readOf text ≡ refused 10 0
-  pub first-fits : (text : List ℕ) → length text ≤ maxBytes → Answers (readOf text) (fitFrom 1 [] (split 10 text))
+  pub first-fits : (text : List ℕ) → length text ≤ maxBytes → Answers text (readOf text) (fitFrom 1 [] (split 10 text))
   -- a refusal has one of the numbers 1 to 10, so that 0 can say that there is none
   pub numbers : (text : List ℕ) (n line : ℕ) → readOf text ≡ refused n line → (1 ≤ n) × (n ≤ 10)
   -- words in form are read back from their written text, which is no longer than a text may be
