@@ -1,0 +1,64 @@
+/* Makes one call through the C boundary, for an instruction count of it: steps (start|finish|result|open|short) PLAN [ITEM]. The call is made
+   by `measured` alone. Before a start or finish of an item in pass 0 the items before it have finished that pass, so that the call is accepted;
+   before a result all items have finished all passes. Prints the number of items; fails where the call is not answered as it should be. */
+#include <stddef.h>
+#include <stdint.h>
+#include <stdlib.h>
+
+#include "../include/taskiter.h"
+#include "plans.h"
+
+static char text[TEXT_ROOM];
+static uint64_t plan[TASKITER_PLAN_WORDS];
+static TASKITER_COUNT_TYPE counts[TASKITER_COUNTS];
+static uint64_t values[TASKITER_VALUES];
+
+static uint64_t measured(const char *call, uint64_t item) __attribute__((noinline));
+
+static uint64_t measured(const char *call, uint64_t item) {
+    switch (call[1]) {
+    case 't': /* start */
+        return taskiter_start(plan, TASKITER_PLAN_WORDS, counts, TASKITER_COUNTS, values, TASKITER_VALUES, item).refusal;
+    case 'i': /* finish */
+        return taskiter_finish(plan, TASKITER_PLAN_WORDS, counts, TASKITER_COUNTS, values, TASKITER_VALUES, item).refusal;
+    case 'e': /* result */
+        return taskiter_result(plan, TASKITER_PLAN_WORDS, counts, TASKITER_COUNTS, values, TASKITER_VALUES, item).refusal;
+    case 'p': /* open */
+        return taskiter_open(plan, TASKITER_PLAN_WORDS, counts, TASKITER_COUNTS, values, TASKITER_VALUES);
+    default: /* short */
+        return taskiter_start(plan, TASKITER_PLAN_WORDS - 1, counts, TASKITER_COUNTS, values, TASKITER_VALUES, item).refusal;
+    }
+}
+
+/* How many items the plan has: starts of the others are refused with 13. */
+static uint64_t item_count(void) {
+    uint64_t n = 0;
+    while (n < TASKITER_MAX_ITEMS && taskiter_start(plan, TASKITER_PLAN_WORDS, counts, TASKITER_COUNTS, values, TASKITER_VALUES, n).refusal != 13)
+        n++;
+    return n;
+}
+
+int main(int argc, char **argv) {
+    if (argc < 3)
+        return 2;
+    const char *call = argv[1];
+    int length = named_plan(text, argv[2]);
+    uint64_t item = argc > 3 ? strtoull(argv[3], NULL, 10) : 0;
+    if (taskiter_read((const uint8_t *)text, (size_t)length, plan, TASKITER_PLAN_WORDS).refusal != 0)
+        return 1;
+    if (taskiter_open(plan, TASKITER_PLAN_WORDS, counts, TASKITER_COUNTS, values, TASKITER_VALUES) != 0)
+        return 1;
+    uint64_t items = item_count();
+    uint64_t done = strcmp(call, "result") == 0 ? items : item;
+    uint32_t passes = strcmp(call, "result") == 0 ? (uint32_t)plan[0] : 1;
+    memset(counts, 0, sizeof counts);
+    for (uint64_t a = 0; a < done; a++)
+        counts[a] = counts[TASKITER_MAX_ITEMS + a] = passes;
+    if (strcmp(call, "finish") == 0)
+        counts[item] = 1;
+    uint64_t refusal = measured(call, item);
+    if (refusal != (strcmp(call, "short") == 0 ? 11 : 0))
+        return 1;
+    printf("%" PRIu64 "\n", items);
+    return 0;
+}

@@ -1,0 +1,7 @@
+pub mod Accepting
+pub mod Placing
+pub mod Simulating
+pub mod Playing
+pub mod Answering
+pub mod Made
+pub mod Refusals

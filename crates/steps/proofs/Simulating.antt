@@ -1,0 +1,276 @@
+-- The lent state and the states of unroll's machine: an opening ties it to the machine's opening, and each start or finish goes as the machine's.
+use Prim.Native.Nat.{ℕ, suc, _+_, _≤_, _<_}
+use mathlib.Core.Path.{_≡_, sym, _∙_, ap, ap₂, subst}
+use mathlib.Core.Bool.{Bool, true, cond, _||_}
+use mathlib.Core.Logic.{inl, inr, _↔_, ite, if-neg}
+use mathlib.Core.List.{List}
+use mathlib.Core.Option.{none, some, Option·none-ne-some}
+use native.Mathlib.Decide.{ℕ-discrete}
+use native.Mathlib.Omega.{arith}
+use borrow.Author.Tests.{eq-eqb, ne-eqb}
+use lib.ListN.{length, getD, take, length-set}
+use lib.Seq.{getD-set-other}
+use Rattle.finite.specs.Lists.{mem}
+use Rattle.finite.specs.Update.{update, put}
+use Rattle.finite.proofs.Tests.{eqb-from}
+use Rattle.finite.proofs.Update.{set-at, update-ind}
+use Rattle.finite.proofs.Replaced.{length-replaced, replaced-at}
+use Rattle.unroll.specs.System.{System}
+use Rattle.unroll.specs.Machine.{State, Call as Step, start as startStep, finish as finishStep, opening, CanStart, CanFinish, startState, finishState, Can, after, answer, Decides, reply, step}
+use Rattle.unroll.specs.Meaning.{Agree}
+use Rattle.unroll.proofs.Local.{local}
+use Rattle.unroll.proofs.Runs.{can-accepts, cannot-refuses, can-steps, can-counts, reply-some, reply-none}
+use Rattle.body.specs.Items.{itemCount}
+use Rattle.body.specs.Places.{initial, system}
+use Rattle.plan.specs.Layout.{planWords}
+use Rattle.graph.specs.Answers.{formedPlan, planBody}
+use Rattle.graph.proofs.Small.{plan-fits}
+use Rattle.steps.specs.State.{countWords, valueWords, firstFinished, firstHeld, stateOf}
+use Rattle.steps.specs.Answers.{Left, isCount, isCopy, isSlot, isHeld, formedCounts, opened, wordNow, started, finished}
+use Rattle.steps.specs.Calls.{Call, start, finish, result, Lent, lentBy, call, isAccepted}
+use Rattle.steps.proofs.Accepting.{CountFormed, Clear, long-slices, formed-counts, start-can, start-started, finish-can, finish-finished, every-unchanged, result-shown}
+use Rattle.steps.proofs.Placing.{started-count, finished-count, held-opened, place-opened, held-opening, items-few, place-below, beyond-unwritten}
+
+pub agree-trans : (S : System) (s t u : State) → Agree S s t → Agree S t u → Agree S s u
+agree-trans S s t u p q =
+    record {
+      started = λ a l. p .started a l ∙ q .started a l;
+      finished = λ a l. p .finished a l ∙ q .finished a l;
+      held = λ a l. p .held a l ∙ q .held a l;
+      places = λ a x l h. p .places a x l h ∙ q .places a x l h;
+    }
+
+-- a lent state in form that shows the state of the machine
+pub record Tied (plan : List ℕ) (s : Lent) (σ : State) : Type 0 where
+  pub long-counts : countWords ≤ length (s .counts)
+  pub long-values : valueWords ≤ length (s .values)
+  pub formed : formedCounts plan (s .counts) (s .values) ≡ true
+  pub agree : Agree (system (planBody plan)) (stateOf (s .counts) (s .values)) σ
+
+-- counts in form stay so
+module _ (passes : ℕ) (s t : State) where
+  formed-same : (b : ℕ) → t .started b ≡ s .started b → t .finished b ≡ s .finished b → CountFormed passes s b → CountFormed passes t b
+  formed-same b e f (l, inl k) = (omega arith, inl (omega arith))
+  formed-same b e f (l, inr (k, m)) = (omega arith, inr (omega arith, omega arith))
+
+  -- over a start and a finish of item a
+
+  formed-start : (a : ℕ) → s .finished a < passes → s .started a ≡ s .finished a → (b : ℕ) → t .started b ≡ update (s .started) a (suc (s .started a)) b →
+      t .finished b ≡ s .finished b → CountFormed passes s b → CountFormed passes t b
+  formed-start a l i =
+      update-ind (λ b r. t .started b ≡ r → t .finished b ≡ s .finished b → CountFormed passes s b → CountFormed passes t b) (s .started) a (suc (s .started a))
+      (λ e f k. (omega arith, inr (omega arith, omega arith)))
+      (λ b ne e f k. formed-same b e f k)
+
+  formed-finish-own : (a : ℕ) → s .started a ≡ suc (s .finished a) → t .finished a ≡ suc (s .finished a) → t .started a ≡ s .started a → CountFormed passes s a → CountFormed passes t a
+  formed-finish-own a r e f (l, inl k) = absurd (omega arith)
+  formed-finish-own a r e f (l, inr (k, m)) = (omega arith, inl (omega arith))
+
+  formed-finish : (a : ℕ) → s .started a ≡ suc (s .finished a) → (b : ℕ) → t .finished b ≡ update (s .finished) a (suc (s .finished a)) b →
+      t .started b ≡ s .started b → CountFormed passes s b → CountFormed passes t b
+  formed-finish a r =
+      update-ind (λ b v. t .finished b ≡ v → t .started b ≡ s .started b → CountFormed passes s b → CountFormed passes t b) (s .finished) a (suc (s .finished a))
+      (λ e f k. formed-finish-own a r e f k)
+      (λ b ne e f k. formed-same b f e k)
+
+module _ (plan : List ℕ) (formed : formedPlan plan ≡ true) (counts values : List ℕ) (long-counts : countWords ≤ length counts) (long-values : valueWords ≤ length values) where
+  few : itemCount (planBody plan) ≤ 640
+  few = items-few (take planWords plan) formed
+
+  -- opening
+
+  pub opened-started : (a : ℕ) → a < itemCount (planBody plan) → stateOf (opened plan counts values .counts) (opened plan counts values .values) .started a ≡ 0
+  opened-started a l = replaced-at (isCount (planBody plan)) (λ i. 0) counts a (omega (arith, few)) ∙ rw (started-count (planBody plan) a l)
+
+  pub opened-finished : (a : ℕ) → a < itemCount (planBody plan) → stateOf (opened plan counts values .counts) (opened plan counts values .values) .finished a ≡ 0
+  opened-finished a l = replaced-at (isCount (planBody plan)) (λ i. 0) counts (firstFinished + a) (omega (arith, few)) ∙ rw (finished-count (planBody plan) a l)
+
+  pub opened-value : (x : ℕ) → x < length values → (isCopy (planBody plan) x || (isSlot (planBody plan) x || isHeld (planBody plan) x)) ≡ true →
+      getD (opened plan counts values .values) x 0 ≡ initial (planBody plan) x
+  opened-value x l e =
+      replaced-at (λ x. isCopy (planBody plan) x || (isSlot (planBody plan) x || isHeld (planBody plan) x)) (initial (planBody plan)) values x l ∙ rw e
+
+  pub opened-tied : Tied plan (lentBy (opened plan counts values)) (opening (system (planBody plan)))
+  unfolding opening
+  opened-tied =
+      record {
+        long-counts = omega (arith, length-replaced (isCount (planBody plan)) (λ i. 0) counts);
+        long-values = omega (arith, length-replaced (λ x. isCopy (planBody plan) x || (isSlot (planBody plan) x || isHeld (planBody plan) x)) (initial (planBody plan)) values);
+        formed = formed-counts plan (opened plan counts values .counts) (opened plan counts values .values) .1
+            (λ a l. (omega (arith, opened-finished a l), inl (opened-started a l ∙ sym (opened-finished a l))));
+        agree = record {
+          started = opened-started;
+          finished = opened-finished;
+          held = λ a l. opened-value (firstHeld + a) (omega (arith, few)) (held-opened (planBody plan) a l) ∙ held-opening (planBody plan) (plan-fits (take planWords plan) formed) a;
+          places = λ a x l h. opened-value x (omega (arith, place-below (take planWords plan) formed a x l h)) (place-opened (planBody plan) (plan-fits (take planWords plan) formed) a x l h);
+        };
+      }
+
+  module _ (a : ℕ) (la : a < itemCount (planBody plan)) where
+    -- start
+
+    pub start-agree : Agree (system (planBody plan)) (stateOf (started plan counts values a .counts) (started plan counts values a .values)) (startState (system (planBody plan)) (stateOf counts values) a)
+    unfolding startState update
+    start-agree =
+        record {
+          started = λ b l. set-at counts a b (suc (getD counts a 0)) 0 (omega (arith, few));
+          finished = λ b l. getD-set-other counts a (firstFinished + b) (suc (getD counts a 0)) 0 (λ e. omega (arith, few));
+          held = λ b l.
+              set-at values (firstHeld + a) (firstHeld + b) (wordNow plan counts values a) 0 (omega (arith, few))
+              ∙ ap (λ (t : Bool). cond t (wordNow plan counts values a) (getD values (firstHeld + b) 0)) (eqb-from firstHeld b a);
+          places = λ b x l h.
+              getD-set-other values (firstHeld + a) x (wordNow plan counts values a) 0 (λ e. omega (arith, place-below (take planWords plan) formed b x l h));
+        }
+
+    -- finish
+
+    finish-value : (x : ℕ) → x < length values →
+        getD (finished plan counts values a .values) x 0 ≡ cond (mem x (system (planBody plan) .writes a)) (getD values (firstHeld + a) 0) (getD values x 0)
+    finish-value x l = replaced-at (λ x. mem x (system (planBody plan) .writes a)) (λ x. getD values (firstHeld + a) 0) values x l
+
+    pub finish-agree : Agree (system (planBody plan)) (stateOf (finished plan counts values a .counts) (finished plan counts values a .values)) (finishState (system (planBody plan)) (stateOf counts values) a)
+    unfolding finishState update put
+    finish-agree =
+        record {
+          started = λ b l. getD-set-other counts (firstFinished + a) b (suc (getD counts (firstFinished + a) 0)) 0 (λ e. omega (arith, few));
+          finished = λ b l.
+              set-at counts (firstFinished + a) (firstFinished + b) (suc (getD counts (firstFinished + a) 0)) 0 (omega (arith, few))
+              ∙ ap (λ (t : Bool). cond t (suc (getD counts (firstFinished + a) 0)) (getD counts (firstFinished + b) 0)) (eqb-from firstFinished b a);
+          held = λ b l.
+              finish-value (firstHeld + b) (omega (arith, few))
+              ∙ rw (beyond-unwritten (take planWords plan) formed a (firstHeld + b) la (omega arith));
+          places = λ b x l h. finish-value x (omega (arith, place-below (take planWords plan) formed b x l h));
+        }
+
+module _ (plan : List ℕ) where
+  lent-same : (s : Lent) (c : Call) → (call plan s c .refusal ≡ 0 → ⊥) → lentBy (call plan s c) ≡ s
+  lent-same s c f = let u = every-unchanged plan s c f in ap₂ (λ x y. record { counts = x; values = y }) (u .1) (u .2)
+
+  tied-agree : (s : Lent) (σ τ : State) → Tied plan s σ → Agree (system (planBody plan)) σ τ → Tied plan s τ
+  tied-agree s σ τ t g =
+      record {
+        long-counts = t .long-counts;
+        long-values = t .long-values;
+        formed = t .formed;
+        agree = agree-trans (system (planBody plan)) (stateOf (s .counts) (s .values)) σ τ (t .agree) g;
+      }
+
+  -- a result changes nothing
+  pub result-same : (s : Lent) (g : ℕ) → lentBy (call plan s (result g)) ≡ s
+  result-same s g =
+      elim (ℕ-discrete (call plan s (result g) .refusal) 0) [
+        | yes z ↦ ap lentBy (result-shown plan (s .counts) (s .values) g z)
+        | no f ↦ lent-same s (result g) f
+      ]
+
+  -- what is left to show of a call: it is accepted as the step is from the lent state itself, and then answers and leaves the same
+  pub record Matches (s : Lent) (c : Call) (d : Step) : Type 0 where
+    pub accepted : (call plan s c .refusal ≡ 0) ↔ Can (system (planBody plan)) (stateOf (s .counts) (s .values)) d
+    pub word : call plan s c .refusal ≡ 0 → call plan s c .word ≡ answer (system (planBody plan)) (stateOf (s .counts) (s .values)) d
+    pub left : call plan s c .refusal ≡ 0 → Tied plan (lentBy (call plan s c)) (after (system (planBody plan)) (stateOf (s .counts) (s .values)) d)
+
+  module _ (long : planWords ≤ length plan) (formed : formedPlan plan ≡ true) where
+    pub tied-clear : (s : Lent) (σ : State) → Tied plan s σ → Clear plan (s .counts) (s .values)
+    tied-clear s σ t =
+        record {
+          long = long-slices plan (s .counts) (s .values) .1 (long, t .long-counts, t .long-values);
+          formed-plan = formed;
+          formed-counts = t .formed;
+        }
+
+    start-left : (s : Lent) (σ : State) → Tied plan s σ → (a : ℕ) → CanStart (system (planBody plan)) (stateOf (s .counts) (s .values)) a →
+        Tied plan (lentBy (started plan (s .counts) (s .values) a)) (startState (system (planBody plan)) (stateOf (s .counts) (s .values)) a)
+    unfolding startState
+    start-left s σ t a k =
+        let g = start-agree plan formed (s .counts) (s .values) (t .long-counts) (t .long-values) a (k .in-range) in
+        record {
+          long-counts = omega (arith, t .long-counts, length-set (s .counts) a (suc (getD (s .counts) a 0)));
+          long-values = omega (arith, t .long-values, length-set (s .values) (firstHeld + a) (wordNow plan (s .counts) (s .values) a));
+          formed = formed-counts plan (started plan (s .counts) (s .values) a .counts) (started plan (s .counts) (s .values) a .values) .1
+              (λ b l. formed-start (planBody plan .passes) (stateOf (s .counts) (s .values)) (stateOf (started plan (s .counts) (s .values) a .counts) (started plan (s .counts) (s .values) a .values))
+              a (k .left) (k .idle) b (g .started b l) (g .finished b l) (formed-counts plan (s .counts) (s .values) .0 (t .formed) b l));
+          agree = g;
+        }
+
+    finish-left : (s : Lent) (σ : State) → Tied plan s σ → (a : ℕ) → CanFinish (system (planBody plan)) (stateOf (s .counts) (s .values)) a →
+        Tied plan (lentBy (finished plan (s .counts) (s .values) a)) (finishState (system (planBody plan)) (stateOf (s .counts) (s .values)) a)
+    unfolding finishState
+    finish-left s σ t a k =
+        let g = finish-agree plan formed (s .counts) (s .values) (t .long-counts) (t .long-values) a (k .in-range) in
+        record {
+          long-counts = omega (arith, t .long-counts, length-set (s .counts) (firstFinished + a) (suc (getD (s .counts) (firstFinished + a) 0)));
+          long-values = omega (arith, t .long-values, length-replaced (λ x. mem x (system (planBody plan) .writes a)) (λ x. getD (s .values) (firstHeld + a) 0) (s .values));
+          formed = formed-counts plan (finished plan (s .counts) (s .values) a .counts) (finished plan (s .counts) (s .values) a .values) .1
+              (λ b l. formed-finish (planBody plan .passes) (stateOf (s .counts) (s .values)) (stateOf (finished plan (s .counts) (s .values) a .counts) (finished plan (s .counts) (s .values) a .values))
+              a (k .running) b (g .finished b l) (g .started b l) (formed-counts plan (s .counts) (s .values) .0 (t .formed) b l));
+          agree = g;
+        }
+
+module _ (plan : List ℕ) (can : Decides (system (planBody plan))) where
+  -- the call c on the lent state s goes as the step d of the machine from σ
+  pub record Follows (s : Lent) (σ : State) (c : Call) (d : Step) : Type 0 where
+    -- it counts for n where it is accepted
+    pub counted : (n : ℕ) → _≡_ {A = ℕ} (cond (isAccepted plan s c) n 0) (ite (can σ d) n 0)
+    pub answered : call plan s c .refusal ≡ 0 → reply (system (planBody plan)) can σ d ≡ some (call plan s c .word)
+    pub replied : (v : ℕ) → reply (system (planBody plan)) can σ d ≡ some v → call plan s c .refusal ≡ 0
+    pub tied : Tied plan (lentBy (call plan s c)) (step (system (planBody plan)) can σ d)
+
+  follows : (s : Lent) (σ : State) (c : Call) (d : Step) → Tied plan s σ → Matches plan s c d → Follows s σ c d
+  follows s σ c d t m =
+      elim (can (stateOf (s .counts) (s .values)) d) [
+        | yes k ↦ yes-follows k
+        | no f ↦ no-follows f
+      ]
+    where
+      S : System
+      S = system (planBody plan)
+
+      here : State
+      here = stateOf (s .counts) (s .values)
+
+      moved : (reply S can here d ≡ reply S can σ d) × Agree S (step S can here d) (step S can σ d)
+      moved = local S can here σ d (t .agree)
+
+      yes-follows : Can S here d → Follows s σ c d
+      yes-follows k =
+          let z : call plan s c .refusal ≡ 0 = m .accepted .1 k in
+          let r : reply S can σ d ≡ some (answer S here d) = sym (moved .0) ∙ can-accepts S can here d k in
+          record {
+            counted = λ n. rw (eq-eqb (call plan s c .refusal) 0 z) (sym (can-counts S can σ d n (reply-some S can σ d (answer S here d) r .0)));
+            answered = λ h. r ∙ ap some (sym (m .word z));
+            replied = λ v e. z;
+            tied = tied-agree plan (lentBy (call plan s c)) (after S here d) (step S can σ d) (m .left z)
+                (subst (λ (x : State). Agree S x (step S can σ d)) (can-steps S can here d k) (moved .1));
+          }
+
+      no-follows : (Can S here d → ⊥) → Follows s σ c d
+      no-follows f =
+          let u : call plan s c .refusal ≡ 0 → ⊥ = λ z. f (m .accepted .0 z) in
+          let r : reply S can σ d ≡ none = sym (moved .0) ∙ cannot-refuses S can here d f in
+          record {
+            counted = λ n. rw (ne-eqb (call plan s c .refusal) 0 u) (sym (if-neg (can σ d) (λ k. Option·none-ne-some (answer S σ d) (sym r ∙ can-accepts S can σ d k)) n 0));
+            answered = λ h. absurd (u h);
+            replied = λ v e. absurd (Option·none-ne-some v (sym r ∙ e));
+            tied = rw (lent-same plan s c u, reply-none S can σ d r) t;
+          }
+
+  module _ (long : planWords ≤ length plan) (formed : formedPlan plan ≡ true) where
+    pub start-follows : (s : Lent) (σ : State) (a : ℕ) → Tied plan s σ → Follows s σ (start a) (startStep a)
+    start-follows s σ a t =
+        let can-start = start-can plan (s .counts) (s .values) (tied-clear plan long formed s σ t) a in
+        follows s σ (start a) (startStep a) t
+        (record {
+          accepted = can-start;
+          word = λ z. ap (λ (r : Left). r .word) (start-started plan (s .counts) (s .values) a z);
+          left = λ z. rw (start-started plan (s .counts) (s .values) a z) (start-left plan long formed s σ t a (can-start .0 z));
+        })
+
+    pub finish-follows : (s : Lent) (σ : State) (a : ℕ) → Tied plan s σ → Follows s σ (finish a) (finishStep a)
+    finish-follows s σ a t =
+        let can-finish = finish-can plan (s .counts) (s .values) (tied-clear plan long formed s σ t) a in
+        follows s σ (finish a) (finishStep a) t
+        (record {
+          accepted = can-finish;
+          word = λ z. ap (λ (r : Left). r .word) (finish-finished plan (s .counts) (s .values) a z);
+          left = λ z. rw (finish-finished plan (s .counts) (s .values) a z) (finish-left plan long formed s σ t a (can-finish .0 z));
+        })

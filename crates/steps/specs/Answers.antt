@@ -1,0 +1,133 @@
+-- What opening, start, finish and result answer and leave (paper 01, "Steps", and 11 to 18 of "Refusals that come from the state"), for every
+-- content and length of the lent slices.
+use Prim.Native.Nat.{ℕ, suc, _+_, _-_, _*_}
+use mathlib.Core.Bool.{Bool, true, cond, _&&_, _||_}
+use mathlib.Core.List.{List}
+use lib.Dec.{eqb, ltb, leb}
+use lib.ListN.{length, set}
+use Rattle.finite.specs.Below.{allBelow}
+use Rattle.finite.specs.Lists.{mem}
+use Rattle.finite.specs.Update.{replaced}
+use Rattle.unroll.specs.Sequential.{wordOn}
+use Rattle.unroll.specs.Machine.{State}
+use Rattle.body.specs.Body.{Body, firstSlot}
+use Rattle.body.specs.Items.{itemCount}
+use Rattle.body.specs.Places.{initial, system, resultOf as regionResult}
+use Rattle.edges.specs.Tests.{kindAt, waitsTest}
+use Rattle.graph.specs.Answers.{refusalOf, longPlan, formedPlan, planBody, isItem}
+use Rattle.steps.specs.State.{countWords, valueWords, firstFinished, firstHeld, stateOf}
+
+-- the answer, refusal 0 being none and the word of a refused call 0, and the lent state at exit
+pub record Left : Type 0 where
+  pub refusal : ℕ
+  pub word : ℕ
+  pub counts : List ℕ
+  pub values : List ℕ
+
+-- the counts of item a are in form: it has finished no more passes than the plan has, and started as many, or one more with a pass left
+abbrev pub countOk : ℕ → State → ℕ → Bool
+countOk passes s a =
+    leb (s .finished a) passes
+    && (eqb (s .started a) (s .finished a) || (eqb (s .started a) (s .finished a + 1) && ltb (s .finished a) passes))
+
+-- every item has finished every pass
+abbrev pub isComplete : Body → State → Bool
+isComplete B s = allBelow (itemCount B) (λ a. eqb (s .finished a) (B .passes))
+
+-- 14, 15 and 16 of a start, 17 of a finish, 18 of a result; 0 where none holds. The test of the waits is the rule's (Demands, demand 2)
+abbrev pub startTests : Body → State → ℕ → ℕ
+startTests B s a =
+    cond (ltb (s .finished a) (B .passes))
+    (cond (eqb (s .started a) (s .finished a))
+    (cond (waitsTest B (s .finished) (s .started a) a) 0 16)
+    15)
+    14
+
+abbrev pub finishTests : State → ℕ → ℕ
+finishTests s a = cond (eqb (s .started a) (s .finished a)) 17 0
+
+abbrev pub resultTests : Body → State → ℕ
+resultTests B s = cond (isComplete B s) 0 18
+
+-- the state that a plan uses, by index: counts, and of the values copies, slots of sends, and held words
+module _ (B : Body) where
+  abbrev pub isCount : ℕ → Bool
+  isCount i = ltb i (itemCount B) || (leb firstFinished i && ltb i (firstFinished + itemCount B))
+
+  abbrev pub isCopy : ℕ → Bool
+  isCopy x = ltb x (B .ranks * B .regions)
+
+  abbrev pub isSlot : ℕ → Bool
+  isSlot x = leb firstSlot x && (ltb x (firstSlot + itemCount B) && eqb (kindAt B (x - firstSlot)) 1)
+
+  abbrev pub isHeld : ℕ → Bool
+  isHeld x = leb firstHeld x && ltb x (firstHeld + itemCount B)
+
+module _ (plan counts values : List ℕ) where
+  abbrev pub longSlices : Bool
+  longSlices = longPlan plan && (leb countWords (length counts) && leb valueWords (length values))
+
+  abbrev pub formedCounts : Bool
+  formedCounts = allBelow (itemCount (planBody plan)) (countOk (planBody plan .passes) (stateOf counts values))
+
+  -- 11, 12 and 13 of a step or result, whose number lies within its limit or not
+  abbrev pub callRefusal : Bool → ℕ
+  callRefusal within = refusalOf longSlices (formedPlan plan && formedCounts) within
+
+  -- nothing is changed
+  abbrev pub refused : ℕ → Left
+  refused n = record { refusal = n; word = 0; counts = counts; values = values }
+
+  -- refused for n, if that is not 0
+  abbrev pub unless : ℕ → Left → Left
+  unless n accepted = cond (eqb n 0) accepted (refused n)
+
+  -- every copy holds its starting value; counts, slots and held words are 0; what the plan does not use stays
+  abbrev pub opened : Left
+  opened =
+      record {
+        refusal = 0;
+        word = 0;
+        counts = replaced (isCount (planBody plan)) (λ i. 0) counts;
+        values = replaced (λ x. isCopy (planBody plan) x || (isSlot (planBody plan) x || isHeld (planBody plan) x)) (initial (planBody plan)) values;
+      }
+
+  unfoldable pub openOf : Left
+  openOf = unless (refusalOf longSlices (formedPlan plan) true) opened
+
+  -- item a reads and computes its word, which is answered and held; the start is counted
+  abbrev pub wordNow : ℕ → ℕ
+  wordNow a = wordOn (system (planBody plan)) a (stateOf counts values .places)
+
+  abbrev pub started : ℕ → Left
+  started a =
+      record {
+        refusal = 0;
+        word = wordNow a;
+        counts = set counts a (suc (stateOf counts values .started a));
+        values = set values (firstHeld + a) (wordNow a);
+      }
+
+  unfoldable pub startOf : ℕ → Left
+  startOf a = unless (callRefusal (isItem plan a)) (unless (startTests (planBody plan) (stateOf counts values) a) (started a))
+
+  -- the word that item a holds is answered, and goes to the places that a writes; the finish is counted
+  abbrev pub finished : ℕ → Left
+  finished a =
+      record {
+        refusal = 0;
+        word = stateOf counts values .held a;
+        counts = set counts (firstFinished + a) (suc (stateOf counts values .finished a));
+        values = replaced (λ x. mem x (system (planBody plan) .writes a)) (λ x. stateOf counts values .held a) values;
+      }
+
+  unfoldable pub finishOf : ℕ → Left
+  finishOf a = unless (callRefusal (isItem plan a)) (unless (finishTests (stateOf counts values) a) (finished a))
+
+  -- region g's result; nothing is changed
+  abbrev pub shown : ℕ → Left
+  shown g = record { refusal = 0; word = regionResult (planBody plan) (stateOf counts values) g; counts = counts; values = values }
+
+  unfoldable pub resultOf : ℕ → Left
+  resultOf g =
+      unless (callRefusal (ltb g (planBody plan .regions))) (unless (resultTests (planBody plan) (stateOf counts values)) (shown g))

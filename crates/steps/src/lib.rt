@@ -1,0 +1,2 @@
+// No code: what opening, start, finish and result answer and leave, for every plan and every lent state, and lists of calls (specs/); that
+// they are the steps of the machine of `unroll`, and so compute the loop in any order (proofs/).

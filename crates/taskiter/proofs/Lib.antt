@@ -1,0 +1,14 @@
+pub mod Plans
+pub mod Counting
+pub mod Finding
+pub mod Starting
+pub mod Finishing
+pub mod Opening
+pub mod Resulting
+pub mod Looking
+pub mod Calling
+pub mod AnyOrder
+pub mod Unread
+pub mod Readiness
+pub mod Numbering
+pub mod Demands

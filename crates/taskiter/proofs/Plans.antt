@@ -1,0 +1,33 @@
+-- What a plan in form gives the functions that are lent it: numbers within their limits, and words within the plan.
+use Prim.Native.Nat.{ℕ, _%_, _≤_, _<_}
+use mathlib.Core.Path.{_≡_}
+use mathlib.Core.Bool.{true}
+use mathlib.Core.List.{List}
+use native.Mathlib.Nat.{mod-lt}
+use native.Mathlib.Omega.{arith}
+use Rattle.body.specs.Items.{itemCount}
+use Rattle.plan.specs.Layout.{passesOf, regionsOf, tasksOf, accessesOf, bodyOf}
+use Rattle.plan.specs.Form.{inForm}
+use Rattle.plan.proofs.Facts.{formed, Formed as Facts}
+use Rattle.graph.proofs.Small.{form-words}
+use Rattle.graph.proofs.Theorems.{laws}
+use Rattle.taskiter.specs.Items.{Formed}
+
+module _ (w : List ℕ) (h : inForm w ≡ true) where
+  pub passes-few : passesOf w ≤ 1000000
+  passes-few = formed w (form-words w h) .passes-most
+
+  pub items-few : (n : ℕ) → n ≡ itemCount (bodyOf w) → n ≤ 640
+  items-few n e = omega (arith, laws .items w h)
+
+-- the words of a plan in form as numbers
+pub facts : (w : List ℕ) → Formed w → Facts w
+facts w F = formed w (form-words w (F .formed))
+
+-- a task's words lie in the plan
+pub task-room : (w : List ℕ) → Formed w → (i : ℕ) → i < tasksOf w → (i < 128) × (accessesOf w i ≤ 8)
+task-room w F i l = (omega (arith, facts w F .tasks-most), facts w F .used i l .accesses-most)
+
+-- the starting value of a copy stands in the plan
+pub start-room : (w : List ℕ) → Formed w → (x r : ℕ) → r ≡ regionsOf w → x % r < 128
+start-room w F x r e = let l : 0 < r = omega (arith, facts w F .regions-least) in omega (arith, mod-lt x l, facts w F .regions-most)

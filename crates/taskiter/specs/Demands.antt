@@ -1,0 +1,264 @@
+-- The three demands on the runtime, stated over the definitions that its functions are equated with: `readOf` of the crate reading, by `Reads`,
+-- and `openOf`, `startOf`, `finishOf`, `resultOf` of the crate steps. Proved in proofs/Demands.antt. That nothing undefined is done and every
+-- call ends is the check of the code itself.
+use Prim.Native.Nat.{ℕ, suc, _+_, _*_, _≤_, _<_}
+use mathlib.Core.Path.{_≡_}
+use mathlib.Core.Bool.{true, false, cond}
+use mathlib.Core.Logic.{_↔_, _⊎_}
+use mathlib.Core.List.{List, [], _∷_, _++_}
+use lib.Dec.{leb}
+use lib.ListN.{length, getD, set, take, drop, replicate}
+use Rattle.finite.specs.Lists.{mem}
+use Rattle.unroll.specs.System.{Accesses}
+use Rattle.unroll.specs.Sequential.{wordOn}
+use Rattle.unroll.specs.Edges.{Edge}
+use Rattle.unroll.specs.Machine.{State, CanFinish}
+use Rattle.unroll.specs.Meaning.{StartRule}
+use Rattle.body.specs.Body.{Body, firstSlot}
+use Rattle.body.specs.Loop.{loopWord, loopFinal}
+use Rattle.body.specs.Transfers.{transferCount}
+use Rattle.body.specs.Items.{send, writer, itemRank, itemCount, itemAt}
+use Rattle.body.specs.Places.{slot, copy, system}
+use Rattle.body.specs.Meaning.{LastWriter, Meaning}
+use Rattle.edges.specs.Tests.{distance, edgeTest}
+use Rattle.plan.specs.Limits.{maxBytes, maxTransfers, maxWord}
+use Rattle.plan.specs.Layout.{planWords, bodyOf}
+use Rattle.text.specs.Records.{split}
+use Rattle.reading.specs.Plan.{Plan, wordsOf}
+use Rattle.reading.specs.Written.{records, textFrom}
+use Rattle.reading.specs.Valid.{valid}
+use Rattle.reading.specs.Reading.{readOf, accepted as readTo}
+use Rattle.reading.specs.Refusals.{Fit, fit, noFit, fitFrom}
+use Rattle.reading.specs.Laws.{Says, Holds}
+use Rattle.reader.specs.declared.Answer.{Answer}
+use Rattle.reader.specs.Answer.{Reads}
+use Rattle.graph.specs.Answers.{planBody}
+use Rattle.steps.specs.State.{countWords, valueWords, firstFinished, firstHeld, stateOf}
+use Rattle.steps.specs.Answers.{Left, openOf, startOf, finishOf, resultOf}
+use Rattle.steps.specs.Calls.{Call, start, finish, result, isStart, isFinish, isStep, Lent, lent, lentBy, call, play, replies, accepted}
+
+-- Demand 1. Every text, every lent buffer and every call gets an answer; a bad text, and no other, gets a refusal number and a line.
+
+-- the answer is the first refusal that fits; where none fits, the text has the lines of a plan within its limits, and is accepted, or refused
+-- where the plan has too many transfers
+abbrev pub FitTold : List ℕ → Answer → Fit → Type 0
+FitTold text r (fit n line) = r ≡ record { refusal = n; line = line }
+FitTold text r (noFit line) = (P : Plan) × (text ≡ textFrom (records P)) × (valid P ≡ true) × (1 ≤ length (P .tasks))
+    × (r ≡ cond (leb (transferCount (bodyOf (wordsOf P))) maxTransfers) (record { refusal = 0; line = 0 }) (record { refusal = 10; line = line }))
+
+-- what a text read into a lent plan gets: the answer r, and the plan `left`
+pub record TextRead (text plan : List ℕ) (r : Answer) (left : List ℕ) : Type 0 where
+  -- a slice too short is refused with nothing changed
+  pub short : length plan < planWords → (r .refusal ≡ 11) × (r .line ≡ 0) × (left ≡ plan)
+  -- a text that says a plan is accepted, and its words stand in the slice; no other text is
+  pub good : planWords ≤ length plan → (P : Plan) → Says text P → (r .refusal ≡ 0) × (r .line ≡ 0) × (left ≡ wordsOf P ++ drop planWords plan)
+  pub none-other : planWords ≤ length plan → r .refusal ≡ 0 → (P : Plan) × Says text P
+  -- a bad text gets a number from 1 to 10, and its plan reads as zeros
+  pub bad : planWords ≤ length plan → (r .refusal ≡ 0 → ⊥) → (1 ≤ r .refusal) × (r .refusal ≤ 10) × (left ≡ replicate planWords 0 ++ drop planWords plan)
+  -- the number and the line are those of the first refusal that fits; a text too long is refused before any line
+  pub first : planWords ≤ length plan → length text ≤ maxBytes → FitTold text r (fitFrom 1 [] (split 10 text))
+  pub too-long : planWords ≤ length plan → maxBytes < length text → (r .refusal ≡ 10) × (r .line ≡ 0)
+
+-- a slice of a call is too short
+abbrev pub Short : List ℕ → List ℕ → List ℕ → Type 0
+Short plan counts values = (length plan < planWords) ⊎ ((length counts < countWords) ⊎ (length values < valueWords))
+
+-- what a call on a lent state gets
+pub record CallRefused (plan counts values : List ℕ) (r : Left) : Type 0 where
+  pub short : Short plan counts values → r .refusal ≡ 11
+  pub changes-nothing : (r .refusal ≡ 0 → ⊥) → (r .word ≡ 0) × (r .counts ≡ counts) × (r .values ≡ values)
+
+pub record Demand1 : Type 0 where
+  pub reading : (text plan : List ℕ) (r : Answer) (left : List ℕ) → Reads text plan r left → TextRead text plan r left
+  pub opening : (plan counts values : List ℕ) → CallRefused plan counts values (openOf plan counts values)
+  pub steps : (plan : List ℕ) (s : Lent) (c : Call) → CallRefused plan (s .counts) (s .values) (call plan s c)
+
+-- Demand 2. The graph is the published rule's, and steps are accepted exactly by it.
+
+-- the counts of item a are in form where the plan has so many passes
+pub record CountInForm (passes : ℕ) (s : State) (a : ℕ) : Type 0 where
+  pub finished : s .finished a ≤ passes
+  pub started : (s .started a ≡ s .finished a) ⊎ ((s .started a ≡ suc (s .finished a)) × (s .finished a < passes))
+
+-- the slices are long enough, and the plan is what reading leaves for some text
+pub record PlanReady (plan counts values : List ℕ) : Type 0 where
+  pub long-plan : planWords ≤ length plan
+  pub long-counts : countWords ≤ length counts
+  pub long-values : valueWords ≤ length values
+  pub read : (text : List ℕ) × (readOf text ≡ readTo (take planWords plan))
+
+-- besides, the counts of every item are in form: neither 11 nor 12 is given
+pub record Ready (plan counts values : List ℕ) : Type 0 where
+  pub plan-ready : PlanReady plan counts values
+  pub counts-formed : (a : ℕ) → a < itemCount (planBody plan) → CountInForm (planBody plan .passes) (stateOf counts values) a
+
+-- the counts that a plan uses, and of the values the copies, the slots of its sends and the held words
+pub data UsedCount (B : Body) (i : ℕ) : Type 0 where
+  of-start : (a : ℕ) → a < itemCount B → i ≡ a → UsedCount B i
+  of-finish : (a : ℕ) → a < itemCount B → i ≡ firstFinished + a → UsedCount B i
+
+pub data UsedValue (B : Body) (x : ℕ) : Type 0 where
+  of-copy : (q g : ℕ) → q < B .ranks → g < B .regions → x ≡ copy B q g → UsedValue B x
+  of-slot : (a i g q : ℕ) → a < itemCount B → itemAt B a ≡ send i g q → x ≡ slot a → UsedValue B x
+  of-held : (a : ℕ) → a < itemCount B → x ≡ firstHeld + a → UsedValue B x
+
+-- an accepted opening sets every copy to its starting value, and counts, slots and held words to 0; what the plan does not use stays
+pub record OpenMade (B : Body) (counts values : List ℕ) (r : Left) : Type 0 where
+  pub count-size : length (r .counts) ≡ length counts
+  pub value-size : length (r .values) ≡ length values
+  pub count-set : (i : ℕ) → UsedCount B i → getD (r .counts) i 0 ≡ 0
+  pub copy-set : (q g : ℕ) → q < B .ranks → g < B .regions → getD (r .values) (copy B q g) 0 ≡ B .starting g
+  pub slot-set : (a i g q : ℕ) → a < itemCount B → itemAt B a ≡ send i g q → getD (r .values) (slot a) 0 ≡ 0
+  pub held-set : (a : ℕ) → a < itemCount B → getD (r .values) (firstHeld + a) 0 ≡ 0
+  pub count-stays : (i : ℕ) → (UsedCount B i → ⊥) → getD (r .counts) i 0 ≡ getD counts i 0
+  pub value-stays : (x : ℕ) → (UsedValue B x → ⊥) → getD (r .values) x 0 ≡ getD values x 0
+
+-- an accepted start of item a reads and computes the word, which is answered and held; it counts the start and changes nothing else
+pub record StartMade (B : Body) (counts values : List ℕ) (a : ℕ) (r : Left) : Type 0 where
+  pub word : r .word ≡ wordOn (system B) a (stateOf counts values .places)
+  pub counted : r .counts ≡ set counts a (suc (getD counts a 0))
+  pub held : r .values ≡ set values (firstHeld + a) (r .word)
+
+-- an accepted finish of item a writes the word held to the places that a writes, and answers it; it counts the finish and changes nothing else
+pub record FinishMade (B : Body) (counts values : List ℕ) (a : ℕ) (r : Left) : Type 0 where
+  pub word : r .word ≡ getD values (firstHeld + a) 0
+  pub counted : r .counts ≡ set counts (firstFinished + a) (suc (getD counts (firstFinished + a) 0))
+  pub size : length (r .values) ≡ length values
+  pub written : (x : ℕ) → mem x (system B .writes a) ≡ true → getD (r .values) x 0 ≡ r .word
+  pub unwritten : (x : ℕ) → mem x (system B .writes a) ≡ false → getD (r .values) x 0 ≡ getD values x 0
+
+-- an accepted result is the copy on the rank of the region's last writer; with no writer or no pass the starting value. It changes nothing
+pub record ResultMade (B : Body) (counts values : List ℕ) (g : ℕ) (r : Left) : Type 0 where
+  pub written : (j : ℕ) → LastWriter B (B .tasks) g j → 0 < B .passes → r .word ≡ getD values (copy B (B .rank j) g) 0
+  pub unwritten : ((j : ℕ) → LastWriter B (B .tasks) g j → ⊥) → r .word ≡ B .starting g
+  pub no-pass : B .passes ≡ 0 → r .word ≡ B .starting g
+  pub count-stays : r .counts ≡ counts
+  pub value-stays : r .values ≡ values
+
+-- the number of a call lies within its limit
+abbrev pub Within : Body → Call → Type 0
+Within B (start a) = a < itemCount B
+Within B (finish a) = a < itemCount B
+Within B (result g) = g < B .regions
+
+-- the loop is complete
+abbrev pub Complete : Body → State → Type 0
+Complete B s = (a : ℕ) → a < itemCount B → s .finished a ≡ B .passes
+
+-- each refusal is given exactly when its condition holds and no earlier one does
+pub record Numbers (plan counts values : List ℕ) : Type 0 where
+  pub opening-11 : (openOf plan counts values .refusal ≡ 11) ↔ Short plan counts values
+  pub opening-12 : (openOf plan counts values .refusal ≡ 12) ↔ ((Short plan counts values → ⊥) × (PlanReady plan counts values → ⊥))
+  pub call-11 : (c : Call) → (call plan (lent counts values) c .refusal ≡ 11) ↔ Short plan counts values
+  pub call-12 : (c : Call) → (call plan (lent counts values) c .refusal ≡ 12) ↔ ((Short plan counts values → ⊥) × (Ready plan counts values → ⊥))
+  pub call-13 : (c : Call) → (call plan (lent counts values) c .refusal ≡ 13) ↔ (Ready plan counts values × (Within (planBody plan) c → ⊥))
+  pub start-14 : (a : ℕ) → (startOf plan counts values a .refusal ≡ 14)
+      ↔ (Ready plan counts values × (a < itemCount (planBody plan)) × (stateOf counts values .finished a ≡ planBody plan .passes))
+  pub start-15 : (a : ℕ) → (startOf plan counts values a .refusal ≡ 15)
+      ↔ (Ready plan counts values × (a < itemCount (planBody plan)) × (stateOf counts values .started a ≡ suc (stateOf counts values .finished a)))
+  pub start-16 : (a : ℕ) → (startOf plan counts values a .refusal ≡ 16)
+      ↔ (Ready plan counts values × (a < itemCount (planBody plan)) × (stateOf counts values .finished a < planBody plan .passes)
+      × (stateOf counts values .started a ≡ stateOf counts values .finished a) × (StartRule (system (planBody plan)) (stateOf counts values) a → ⊥))
+  pub finish-17 : (a : ℕ) → (finishOf plan counts values a .refusal ≡ 17)
+      ↔ (Ready plan counts values × (a < itemCount (planBody plan)) × (stateOf counts values .started a ≡ stateOf counts values .finished a))
+  pub result-18 : (g : ℕ) → (resultOf plan counts values g .refusal ≡ 18)
+      ↔ (Ready plan counts values × (g < planBody plan .regions) × (Complete (planBody plan) (stateOf counts values) → ⊥))
+
+-- lent states that are the same where the plan uses them
+pub record SameUsed (B : Body) (s t : Lent) : Type 0 where
+  pub same-counts : (i : ℕ) → UsedCount B i → getD (s .counts) i 0 ≡ getD (t .counts) i 0
+  pub same-values : (x : ℕ) → UsedValue B x → getD (s .values) x 0 ≡ getD (t .values) x 0
+
+-- for every lent plan of 64-bit words, and every lent state
+pub record Steps (plan counts values : List ℕ) : Type 0 where
+  -- the items are the paper's, and an edge stands exactly where the rule puts one, transfers included: `edgeTest` is what the waits of a start
+  -- and the list of edges go by
+  pub items : PlanReady plan counts values → Meaning (planBody plan)
+  pub edges : PlanReady plan counts values → (a b d : ℕ) → a < itemCount (planBody plan) → b < itemCount (planBody plan) →
+      Edge (system (planBody plan)) a b d ↔ ((d ≡ distance a b) × (edgeTest (planBody plan) a b ≡ true))
+  -- an item accesses copies of its own rank and of no other
+  pub own-rank : PlanReady plan counts values → (a x : ℕ) → a < itemCount (planBody plan) → Accesses (system (planBody plan)) a x → x < firstSlot →
+      (g : ℕ) × (g < planBody plan .regions) × (x ≡ copy (planBody plan) (itemRank (planBody plan) (itemAt (planBody plan) a)) g)
+  -- counts, copies, slots and held words have room, and no item writes a held word
+  pub room : PlanReady plan counts values → (itemCount (planBody plan) ≤ firstFinished) × (planBody plan .ranks * planBody plan .regions ≤ firstSlot)
+  pub held-apart : PlanReady plan counts values → (a b : ℕ) → a < itemCount (planBody plan) → mem (firstHeld + b) (system (planBody plan) .writes a) ≡ false
+  pub opens : (openOf plan counts values .refusal ≡ 0) ↔ PlanReady plan counts values
+  -- a start is accepted exactly when the item is in turn and everything it must wait for has finished, a finish exactly when its item runs
+  pub starts : (a : ℕ) → (startOf plan counts values a .refusal ≡ 0) ↔ (Ready plan counts values × StartRule (system (planBody plan)) (stateOf counts values) a)
+  pub finishes : (a : ℕ) → (finishOf plan counts values a .refusal ≡ 0) ↔ (Ready plan counts values × CanFinish (system (planBody plan)) (stateOf counts values) a)
+  pub results : (g : ℕ) → (resultOf plan counts values g .refusal ≡ 0)
+      ↔ (Ready plan counts values × (g < planBody plan .regions) × Complete (planBody plan) (stateOf counts values))
+  pub numbers : Numbers plan counts values
+  -- what an accepted call leaves
+  pub opened : openOf plan counts values .refusal ≡ 0 → OpenMade (planBody plan) counts values (openOf plan counts values)
+  pub started : (a : ℕ) → startOf plan counts values a .refusal ≡ 0 → StartMade (planBody plan) counts values a (startOf plan counts values a)
+  pub finished : (a : ℕ) → finishOf plan counts values a .refusal ≡ 0 → FinishMade (planBody plan) counts values a (finishOf plan counts values a)
+  pub shown : (g : ℕ) → resultOf plan counts values g .refusal ≡ 0 → ResultMade (planBody plan) counts values g (resultOf plan counts values g)
+
+pub record Demand2 : Type 0 where
+  pub steps : (plan counts values : List ℕ) → ((i : ℕ) → getD plan i 0 ≤ maxWord) → Steps plan counts values
+  -- what lies behind the sizes, and state that the plan does not use, is not read
+  pub unread : (plan plan′ : List ℕ) (s t : Lent) (c : Call) → take planWords plan ≡ take planWords plan′ →
+      (Short plan (s .counts) (s .values) → ⊥) → (Short plan′ (t .counts) (t .values) → ⊥) → SameUsed (planBody plan) s t →
+      (call plan s c .refusal ≡ call plan′ t c .refusal) × (call plan s c .word ≡ call plan′ t c .word)
+
+-- Demand 3. Whatever order the host takes, the answers are the numbers of the unrolled loop.
+
+-- a list l of calls from the state s, which an opening left; B is the plan's body
+module _ (B : Body) (plan : List ℕ) (s : Lent) where
+  abbrev pub startsOf : ℕ → List Call → ℕ
+  startsOf a l = accepted plan (isStart a) s l
+
+  abbrev pub finishesOf : ℕ → List Call → ℕ
+  finishesOf a l = accepted plan (isFinish a) s l
+
+  -- the call c, made after the list l
+  abbrev pub callAfter : List Call → Call → Left
+  callAfter l c = call plan (play plan s l) c
+
+  -- no item has a pass left
+  abbrev pub AtEnd : List Call → Type 0
+  AtEnd l = (a : ℕ) → a < itemCount B → finishesOf a l ≡ B .passes
+
+  pub record InAnyOrder (l : List Call) : Type 0 where
+    -- an accepted start in the list is of an item, in its next pass, and answers the number of the item's writer in that pass of the loop
+    pub starts : (k m : List Call) (a : ℕ) → l ≡ k ++ (start a ∷ m) → callAfter k (start a) .refusal ≡ 0 →
+        (a < itemCount B) × (startsOf a k < B .passes) × (callAfter k (start a) .word ≡ loopWord B (startsOf a k) (writer (itemAt B a)))
+    -- so does an accepted finish, which belongs to the pass last started
+    pub finishes : (k m : List Call) (a : ℕ) → l ≡ k ++ (finish a ∷ m) → callAfter k (finish a) .refusal ≡ 0 →
+        (a < itemCount B) × (startsOf a k ≡ suc (finishesOf a k)) × (callAfter k (finish a) .word ≡ loopWord B (finishesOf a k) (writer (itemAt B a)))
+    -- an accepted result in the list is asked for at the end, and answers the region's final number in the loop
+    pub results : (k m : List Call) (g : ℕ) → l ≡ k ++ (result g ∷ m) → callAfter k (result g) .refusal ≡ 0 →
+        (g < B .regions) × AtEnd k × (callAfter k (result g) .word ≡ loopFinal B g)
+    -- the counts of the state are those of accepted starts and finishes
+    pub counted : (a : ℕ) → a < itemCount B →
+        (getD (play plan s l .counts) a 0 ≡ startsOf a l) × (getD (play plan s l .counts) (firstFinished + a) 0 ≡ finishesOf a l)
+    -- what the calls of the list answer, one after another
+    pub replied : (k m : List Call) (c : Call) → l ≡ k ++ (c ∷ m) → getD (replies plan s l) (length k) (callAfter l c) ≡ callAfter k c
+    -- the list does not stop short: while an item has a pass left some step is accepted, and accepted steps lead on to the end
+    pub goes-on : (a : ℕ) → a < itemCount B → finishesOf a l < B .passes → (c : Call) × (isStep c ≡ true) × (callAfter l c .refusal ≡ 0)
+    pub leads-on : (k : List Call) × (accepted plan isStep (play plan s l) k ≡ length k) × AtEnd (l ++ k)
+    -- the end is reached exactly when the accepted steps are two for each pass of each item
+    pub ends : AtEnd l ↔ (accepted plan isStep s l ≡ 2 * (B .passes * itemCount B))
+    -- exactly then the result of each region is accepted, and it is the region's final number in the loop
+    pub accepts-results : (g : ℕ) → g < B .regions → AtEnd l ↔ (callAfter l (result g) .refusal ≡ 0)
+    pub final : (g : ℕ) → callAfter l (result g) .refusal ≡ 0 → callAfter l (result g) .word ≡ loopFinal B g
+
+-- an accepted text, its words w in a lent plan, and lent counts and values
+pub record Opened (text w plan counts values : List ℕ) : Type 0 where
+  pub size : length w ≡ planWords
+  -- the words hold the text's numbers, starting values and tasks
+  pub says : (P : Plan) × Says text P × Holds w P
+  pub accepted : openOf plan counts values .refusal ≡ 0
+  pub every-list : (l : List Call) → InAnyOrder (bodyOf w) plan (lentBy (openOf plan counts values)) l
+  -- after every list plan and state are such that neither 11 nor 12 is given
+  pub stays-ready : (l : List Call) → let s = play plan (lentBy (openOf plan counts values)) l in Ready plan (s .counts) (s .values)
+
+pub record Demand3 : Type 0 where
+  pub any-order : (text w behind counts values : List ℕ) → readOf text ≡ readTo w → countWords ≤ length counts → valueWords ≤ length values →
+      Opened text w (w ++ behind) counts values
+
+pub record Demands : Type 0 where
+  pub demand-1 : Demand1
+  pub demand-2 : Demand2
+  pub demand-3 : Demand3

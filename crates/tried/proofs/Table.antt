@@ -1,0 +1,213 @@
+-- The table of specs/Table.antt, proved: texts, edges and kernels by computing, calls by the demands.
+use Prim.Native.Nat.{ℕ, suc, _+_, _*_, _≤_, _<_}
+use mathlib.Core.Path.{_≡_, refl, sym, _∙_, ap, subst}
+use mathlib.Core.Bool.{Bool, cond}
+use mathlib.Core.List.{List, [], _∷_}
+use native.Mathlib.Omega.{arith}
+use lib.ListN.{length, getD, set, take}
+use lib.Seq.{take-at, getD-set-same, getD-set-other}
+use borrow.Author.Tests.{le-ltb}
+use Rattle.unroll.specs.Edges.{Edge}
+use Rattle.unroll.specs.Meaning.{StartRule}
+use Rattle.body.specs.Body.{Body}
+use Rattle.body.specs.TwoRanks.{tenEdges}
+use Rattle.body.specs.Items.{Item, task, writer, itemCount, itemAt}
+use Rattle.body.specs.Places.{system}
+use Rattle.body.specs.Loop.{loopWord, loopFinal}
+use Rattle.edges.proofs.Decided.{edge-distance-is}
+use Rattle.finite.proofs.Members.{at-in}
+use Rattle.plan.specs.Layout.{planWords, bodyOf}
+use Rattle.reading.specs.Reading.{readOf, accepted as readTo}
+use Rattle.kernels.proofs.Cases.{mean-widest, mean-rounded, sum-wraps, difference-wraps}
+use Rattle.graph.specs.Answers.{planBody}
+use Rattle.graph.proofs.Cases.{two-ranks-edges, two-readers-edges}
+use Rattle.steps.specs.State.{stateOf}
+use Rattle.steps.specs.Answers.{openOf}
+use Rattle.steps.specs.Calls.{Call, start, finish, result, isStep, Lent, lentBy, call, play, accepted}
+use Rattle.taskiter.specs.Demands.{of-start, of-finish, Ready, Opened, OpenMade, Steps, AtEnd, InAnyOrder, Demands}
+use Rattle.taskiter.proofs.Demands.{demands}
+use Rattle.tried.specs.Table.{example, exampleWords, Fresh, Accepts, after, Table}
+use Rattle.tried.proofs.Read.{example-read, no-pass-read, readers-read, second-begin, named-twice}
+use Rattle.tried.proofs.Drawn.{example-items, final-two, final-none, first-word}
+
+module _ (D : Demands) where
+  -- what the demands say of a fresh state of the example with p passes
+  module _ (p : ℕ) (read : readOf (example p) ≡ readTo (exampleWords p)) (plan : List ℕ) (s : Lent) (F : Fresh p plan s) where
+    run : Opened (example p) (exampleWords p) plan (F .counts) (F .values)
+    run =
+        subst (λ (q : List ℕ). Opened (example p) (exampleWords p) q (F .counts) (F .values)) (sym (F .holds))
+        (D .demand-3 .any-order (example p) (exampleWords p) (F .behind) (F .counts) (F .values) read (F .long-counts) (F .long-values))
+
+    order : (l : List Call) → InAnyOrder (bodyOf (exampleWords p)) plan s l
+    order l = subst (λ (t : Lent). InAnyOrder (bodyOf (exampleWords p)) plan t l) (sym (F .opened)) (run .every-list l)
+
+    ready : (l : List Call) → Ready plan (play plan s l .counts) (play plan s l .values)
+    ready l = subst (λ (t : Lent). Ready plan (play plan t l .counts) (play plan t l .values)) (sym (F .opened)) (run .stays-ready l)
+
+    body-is : planBody plan ≡ bodyOf (exampleWords p)
+    body-is = ap bodyOf (ap (take planWords) (F .holds) ∙ take-at (exampleWords p) (F .behind) planWords (run .size))
+
+    items-four : itemCount (planBody plan) ≡ 4
+    items-four = ap itemCount body-is ∙ ap length (example-items p)
+
+    passes-are : planBody plan .passes ≡ p
+    passes-are = ap (λ (B : Body). B .passes) body-is
+
+    steps : (t : Lent) → Steps plan (t .counts) (t .values)
+    steps t = D .demand-2 .steps plan (t .counts) (t .values) (F .words)
+
+    fresh-ready : Ready plan (s .counts) (s .values)
+    unfolding play
+    fresh-ready = ready []
+
+    made : OpenMade (planBody plan) (F .counts) (F .values) (openOf plan (F .counts) (F .values))
+    made = D .demand-2 .steps plan (F .counts) (F .values) (F .words) .opened (run .accepted)
+
+    none-started : (a : ℕ) → a < 4 → getD (s .counts) a 0 ≡ 0
+    none-started a l = ap (λ (t : Lent). getD (t .counts) a 0) (F .opened) ∙ made .count-set a (of-start a (omega (arith, items-four)) refl)
+
+    none-finished : (a : ℕ) → a < 4 → getD (s .counts) (640 + a) 0 ≡ 0
+    none-finished a l = ap (λ (t : Lent). getD (t .counts) (640 + a) 0) (F .opened) ∙ made .count-set (640 + a) (of-finish a (omega (arith, items-four)) refl)
+
+    -- after the result of a region is accepted
+    at-end : (l : List Call) → after plan s l (result 0) .refusal ≡ 0 → AtEnd (bodyOf (exampleWords p)) plan s l
+    at-end l h = order l .accepts-results 0 (omega arith) .1 h
+
+    finals : (l : List Call) → AtEnd (bodyOf (exampleWords p)) plan s l → (v w : ℕ) →
+        loopFinal (bodyOf (exampleWords p)) 0 ≡ v → loopFinal (bodyOf (exampleWords p)) 1 ≡ w →
+        Accepts (after plan s l (result 0)) v × Accepts (after plan s l (result 1)) w
+    finals l e v w x y =
+        let a = order l .accepts-results 0 (omega arith) .0 e in
+        let b = order l .accepts-results 1 (omega arith) .0 e in
+        (record { refusal = a; word = order l .final 0 a ∙ x }, record { refusal = b; word = order l .final 1 b ∙ y })
+
+    all-steps : (l : List Call) → AtEnd (bodyOf (exampleWords p)) plan s l → accepted plan isStep s l ≡ 2 * (p * 4)
+    all-steps l e = order l .ends .0 e ∙ ap (λ (n : ℕ). 2 * (p * n)) (ap length (example-items p))
+
+  -- two passes
+  module _ (plan : List ℕ) (s : Lent) (F : Fresh 2 plan s) where
+    case-b : (l : List Call) → after plan s l (result 0) .refusal ≡ 0 →
+        (accepted plan isStep s l ≡ 16) × Accepts (after plan s l (result 0)) 7 × Accepts (after plan s l (result 1)) 13
+    case-b l h =
+        let e = at-end 2 example-read plan s F l h in
+        let r = finals 2 example-read plan s F l e 7 13 (final-two .0) (final-two .1) in
+        (all-steps 2 example-read plan s F l e, r .0, r .1)
+
+    reaches-b : (l : List Call) × (after plan s l (result 0) .refusal ≡ 0)
+    reaches-b =
+        let k = order 2 example-read plan s F [] .leads-on in
+        (k .0, order 2 example-read plan s F (k .0) .accepts-results 0 (omega arith) .0 (k .2))
+
+    R : Ready plan (s .counts) (s .values)
+    R = fresh-ready 2 example-read plan s F
+
+    four : itemCount (planBody plan) ≡ 4
+    four = items-four 2 example-read plan s F
+
+    two : planBody plan .passes ≡ 2
+    two = passes-are 2 example-read plan s F
+
+    started : (a : ℕ) → a < 4 → getD (s .counts) a 0 ≡ 0
+    started = none-started 2 example-read plan s F
+
+    finished : (a : ℕ) → a < 4 → getD (s .counts) (640 + a) 0 ≡ 0
+    finished = none-finished 2 example-read plan s F
+
+    -- item 3 waits for item 2
+    edge-2-3 : Edge (system (planBody plan)) 2 3 0
+    edge-2-3 = subst (λ (B : Body). Edge (system B) 2 3 0) (sym (body-is 2 example-read plan s F)) (two-ranks-edges .exactly 2 3 0 .0 (at-in (2, 3, 0) (0, 0, 0) tenEdges 7 (omega arith) refl))
+
+    case-h : (call plan s (start 3) .refusal ≡ 16) × (call plan s (finish 0) .refusal ≡ 17) × (call plan s (result 0) .refusal ≡ 18)
+    case-h =
+        let N = steps 2 example-read plan s F s .numbers in (
+          N .start-16 3 .1 (
+            R,
+            omega (arith, four),
+            omega (arith, two, finished 3 (omega arith)),
+            started 3 (omega arith) ∙ sym (finished 3 (omega arith)),
+            λ r. let z = r .same-pass 2 edge-2-3 in omega (arith, z, started 3 (omega arith), finished 2 (omega arith)),
+          ),
+          N .finish-17 0 .1 (R, omega (arith, four), started 0 (omega arith) ∙ sym (finished 0 (omega arith))),
+          N .result-18 0 .1 (
+            R,
+            subst (λ (B : Body). 0 < B .regions) (sym (body-is 2 example-read plan s F)) (omega arith),
+            λ c. let z = c 0 (omega (arith, four)) in omega (arith, z, two, finished 0 (omega arith)),
+          ),
+        )
+
+    rule-0 : StartRule (system (planBody plan)) (stateOf (s .counts) (s .values)) 0
+    rule-0 =
+        record {
+          in-range = omega (arith, four);
+          left = omega (arith, two, finished 0 (omega arith));
+          idle = started 0 (omega arith) ∙ sym (finished 0 (omega arith));
+          same-pass = λ b e. absurd (no-edge b e);
+          pass-before = λ b q e h. absurd (omega (arith, h, started 0 (omega arith)));
+        }
+      where
+        no-edge : (b : ℕ) → Edge (system (planBody plan)) b 0 0 → ⊥
+        no-edge b e = let z : _≡_ {A = ℕ} 0 1 = edge-distance-is (system (planBody plan)) b 0 0 e ∙ ap (λ (t : Bool). cond t 0 1) (le-ltb b 0 (omega arith)) in omega (arith, z)
+
+    word-0 : loopWord (bodyOf (exampleWords 2)) 0 (writer (itemAt (bodyOf (exampleWords 2)) 0)) ≡ 6
+    unfolding itemAt
+    word-0 = ap (λ (l : List Item). loopWord (bodyOf (exampleWords 2)) 0 (writer (getD l 0 (task 0)))) (example-items 2) ∙ first-word
+
+    one-started : (C : List ℕ) → C ≡ set (s .counts) 0 (suc (getD (s .counts) 0 0)) → getD C 0 0 ≡ suc (getD C 640 0)
+    one-started C e =
+        let n : 0 < length (s .counts) = omega (arith, R .plan-ready .long-counts) in
+        let x : getD C 0 0 ≡ suc (getD (s .counts) 0 0) = ap (λ (l : List ℕ). getD l 0 0) e ∙ getD-set-same (s .counts) 0 (suc (getD (s .counts) 0 0)) 0 n in
+        let y : getD C 640 0 ≡ getD (s .counts) 640 0 = ap (λ (l : List ℕ). getD l 640 0) e ∙ getD-set-other (s .counts) 0 640 (suc (getD (s .counts) 0 0)) 0 (λ q. let z : _≡_ {A = ℕ} 640 0 = q in omega (arith, z)) in
+        omega (arith, x, y, started 0 (omega arith), finished 0 (omega arith))
+
+    case-i : Accepts (call plan s (start 0)) 6 × (after plan s (start 0 ∷ []) (start 0) .refusal ≡ 15)
+    unfolding play accepted
+    case-i =
+        let h = steps 2 example-read plan s F s .starts 0 .1 (R, rule-0) in
+        let m = steps 2 example-read plan s F s .started 0 h in
+        let t : Lent = lentBy (call plan s (start 0)) in (
+          record { refusal = h; word = order 2 example-read plan s F (start 0 ∷ []) .starts [] [] 0 refl h .2 ∙ word-0 },
+          steps 2 example-read plan s F t .numbers .start-15 0 .1 (ready 2 example-read plan s F (start 0 ∷ []), omega (arith, four), one-started (call plan s (start 0) .counts) (m .counted)),
+        )
+
+  -- no pass
+  module _ (plan : List ℕ) (s : Lent) (F : Fresh 0 plan s) where
+    ended : (l : List Call) → AtEnd (bodyOf (exampleWords 0)) plan s l
+    ended l a below =
+        let c = order 0 no-pass-read plan s F l .counted a below .1 in
+        let k : a < itemCount (planBody plan) = subst (λ (B : Body). a < itemCount B) (sym (body-is 0 no-pass-read plan s F)) below in
+        let r : getD (play plan s l .counts) (640 + a) 0 ≤ planBody plan .passes = ready 0 no-pass-read plan s F l .counts-formed a k .finished in
+        sym c ∙ (let z : getD (play plan s l .counts) (640 + a) 0 ≡ 0 = omega (arith, r, passes-are 0 no-pass-read plan s F) in z)
+
+    case-c : (l : List Call) →
+        Accepts (after plan s l (result 0)) 5 × Accepts (after plan s l (result 1)) 0 × (accepted plan isStep s l ≡ 0)
+        × (after plan s l (start 0) .refusal ≡ 14)
+    case-c l =
+        let four : 0 < itemCount (planBody plan) = omega (arith, items-four 0 no-pass-read plan s F) in
+        let e : 0 < itemCount (bodyOf (exampleWords 0)) = subst (λ (B : Body). 0 < itemCount B) (body-is 0 no-pass-read plan s F) four in
+        let done : getD (play plan s l .counts) (640 + 0) 0 ≡ planBody plan .passes = order 0 no-pass-read plan s F l .counted 0 e .1 ∙ (ended l 0 e ∙ sym (passes-are 0 no-pass-read plan s F)) in
+        let r = finals 0 no-pass-read plan s F l (ended l) 5 0 (final-none .0) (final-none .1) in
+        (r .0, r .1, all-steps 0 no-pass-read plan s F l (ended l), steps 0 no-pass-read plan s F (play plan s l) .numbers .start-14 0 .1 (ready 0 no-pass-read plan s F l, four, done))
+
+  from-demands : Table
+  from-demands =
+      record {
+        example-read = example-read;
+        no-pass-read = no-pass-read;
+        readers-read = readers-read;
+        case-a = two-ranks-edges;
+        case-b = case-b;
+        reaches-b = reaches-b;
+        case-c = case-c;
+        case-d = mean-widest;
+        case-e = mean-rounded;
+        case-f = sum-wraps;
+        case-g = difference-wraps;
+        case-h = case-h;
+        case-i = case-i;
+        case-j = two-readers-edges;
+        case-k = second-begin;
+        case-l = named-twice;
+      }
+
+pub table : Table
+table = from-demands demands

@@ -1,0 +1,120 @@
+-- The starred cases (paper 01, "Tried by hand"), one field a case, over the definitions. Proved in proofs/Table.antt.
+use Prim.Native.Nat.{ℕ, _+_, _-_, _*_, _^_, _≤_}
+use mathlib.Core.Path.{_≡_}
+use mathlib.Core.List.{List, [], _∷_, _++_}
+use lib.ListN.{length, getD, replicate}
+use Rattle.kernels.specs.Kernels.{kernelWord}
+use Rattle.body.specs.TwoRanks.{tenEdges}
+use Rattle.edges.specs.Rule.{AllEdges}
+use Rattle.plan.specs.Limits.{maxWord}
+use Rattle.plan.specs.Layout.{bodyOf}
+use Rattle.text.specs.declared.Number.the-variants.{Value}
+use Rattle.text.specs.declared.Mode.{Mode}
+use Rattle.text.specs.declared.Record.{Record}
+use Rattle.text.specs.declared.Record.the-variants.{Loop, Begin, End}
+use Rattle.reading.specs.Written.{textFrom}
+use Rattle.reading.specs.Reading.{readOf, accepted as readTo, refused}
+use Rattle.steps.specs.State.{countWords, valueWords}
+use Rattle.steps.specs.Answers.{Left, openOf}
+use Rattle.steps.specs.Calls.{Call, start, finish, result, isStep, Lent, lentBy, call, play, accepted}
+
+-- the records of a text
+abbrev pub loop : ℕ → ℕ → ℕ → Record
+loop passes ranks regions = Loop (Value passes) (Value ranks) (Value regions)
+
+abbrev pub starting : ℕ → ℕ → Record
+starting g v = Record.Start (Value g) (Value v)
+
+abbrev pub begin : ℕ → ℕ → ℕ → Record
+begin rank kernel constant = Begin (Value rank) (Value kernel) (Value constant)
+
+abbrev pub accessIn : ℕ → Record
+accessIn g = Record.Access Mode.In (Value g)
+
+abbrev pub accessOut : ℕ → Record
+accessOut g = Record.Access Mode.Out (Value g)
+
+abbrev pub accessInout : ℕ → Record
+accessInout g = Record.Access Mode.Inout (Value g)
+
+-- the example on two ranks with so many passes ("The run program"), and the words that it is read to
+abbrev pub example : ℕ → List ℕ
+example passes =
+    textFrom
+    (loop passes 2 2 ∷ starting 0 5
+    ∷ begin 0 1 1 ∷ accessInout 0 ∷ End
+    ∷ begin 1 1 0 ∷ accessIn 0 ∷ accessInout 1 ∷ End
+    ∷ [])
+
+abbrev pub exampleWords : ℕ → List ℕ
+exampleWords passes =
+    passes ∷ 2 ∷ 2 ∷ 2 ∷ 5 ∷ (replicate 127 0
+    ++ (0 ∷ 1 ∷ 1 ∷ 1 ∷ 256 ∷ (replicate 7 0
+    ++ (1 ∷ 1 ∷ 0 ∷ 2 ∷ 0 ∷ 257 ∷ replicate (6 + 12 * 126) 0))))
+
+-- a text of two tasks on one rank that only read one region
+abbrev pub readers : List ℕ
+readers =
+    textFrom
+    (loop 1 1 1
+    ∷ begin 0 0 0 ∷ accessIn 0 ∷ End
+    ∷ begin 0 0 0 ∷ accessIn 0 ∷ End
+    ∷ [])
+
+abbrev pub readersWords : List ℕ
+readersWords =
+    1 ∷ 1 ∷ 1 ∷ 2 ∷ (replicate 128 0
+    ++ (0 ∷ 0 ∷ 0 ∷ 1 ∷ 0 ∷ (replicate 7 0
+    ++ (0 ∷ 0 ∷ 0 ∷ 1 ∷ 0 ∷ replicate (7 + 12 * 126) 0))))
+
+-- a plan of 64-bit words that holds the example with so many passes, and a state that an opening of it left, whatever was lent
+pub record Fresh (passes : ℕ) (plan : List ℕ) (s : Lent) : Type 0 where
+  pub behind : List ℕ
+  pub counts : List ℕ
+  pub values : List ℕ
+  pub holds : plan ≡ exampleWords passes ++ behind
+  pub words : (i : ℕ) → getD plan i 0 ≤ maxWord
+  pub long-counts : countWords ≤ length counts
+  pub long-values : valueWords ≤ length values
+  pub opened : s ≡ lentBy (openOf plan counts values)
+
+-- a call after a list of calls is accepted with a word, or refused
+pub record Accepts (r : Left) (v : ℕ) : Type 0 where
+  pub refusal : r .refusal ≡ 0
+  pub word : r .word ≡ v
+
+abbrev pub after : List ℕ → Lent → List Call → Call → Left
+after plan s l c = call plan (play plan s l) c
+
+pub record Table : Type 0 where
+  -- the texts are read to these words
+  pub example-read : readOf (example 2) ≡ readTo (exampleWords 2)
+  pub no-pass-read : readOf (example 0) ≡ readTo (exampleWords 0)
+  pub readers-read : readOf readers ≡ readTo readersWords
+  -- A the edges that the paper prints
+  pub case-a : AllEdges (bodyOf (exampleWords 2)) tenEdges
+  -- B the values that it prints, and the 16 steps: some list of calls leads to them, and every list after which a result is accepted
+  pub case-b : (plan : List ℕ) (s : Lent) → Fresh 2 plan s → (l : List Call) → after plan s l (result 0) .refusal ≡ 0 →
+      (accepted plan isStep s l ≡ 16) × Accepts (after plan s l (result 0)) 7 × Accepts (after plan s l (result 1)) 13
+  pub reaches-b : (plan : List ℕ) (s : Lent) → Fresh 2 plan s → (l : List Call) × (after plan s l (result 0) .refusal ≡ 0)
+  -- C with passes 0: values 5 and 0, no steps, start of item 0 gives 14
+  pub case-c : (plan : List ℕ) (s : Lent) → Fresh 0 plan s → (l : List Call) →
+      Accepts (after plan s l (result 0)) 5 × Accepts (after plan s l (result 1)) 0 × (accepted plan isStep s l ≡ 0)
+      × (after plan s l (start 0) .refusal ≡ 14)
+  -- D kernel 3 on four times 2^64 - 1, E on 1, 1, 1, 0
+  pub case-d : (c : ℕ) → kernelWord 3 c ((2 ^ 64 - 1) ∷ (2 ^ 64 - 1) ∷ (2 ^ 64 - 1) ∷ (2 ^ 64 - 1) ∷ []) ≡ 2 ^ 64 - 1
+  pub case-e : (c : ℕ) → kernelWord 3 c (1 ∷ 1 ∷ 1 ∷ 0 ∷ []) ≡ 0
+  -- F kernel 1, read 2^64 - 1, c 1; G kernel 2, reads 3 and 5, c 0
+  pub case-f : kernelWord 1 1 ((2 ^ 64 - 1) ∷ []) ≡ 0
+  pub case-g : kernelWord 2 0 (3 ∷ 5 ∷ []) ≡ 2 ^ 64 - 2
+  -- H fresh state: start 3 gives 16, finish 0 gives 17, result 0 gives 18
+  pub case-h : (plan : List ℕ) (s : Lent) → Fresh 2 plan s →
+      (call plan s (start 3) .refusal ≡ 16) × (call plan s (finish 0) .refusal ≡ 17) × (call plan s (result 0) .refusal ≡ 18)
+  -- I start 0 twice: the first is accepted with 6, the second gives 15
+  pub case-i : (plan : List ℕ) (s : Lent) → Fresh 2 plan s →
+      Accepts (call plan s (start 0)) 6 × (after plan s (start 0 ∷ []) (start 0) .refusal ≡ 15)
+  -- J two tasks on one rank that only read one region: each has its own edge, and there is none between them
+  pub case-j : AllEdges (bodyOf readersWords) ((0, 0, 1) ∷ (1, 1, 1) ∷ [])
+  -- K a second `begin` before `end`: 4 at its line, the third. L `in` 0 then `out` 0: 6 at the fourth line
+  pub case-k : readOf (textFrom (loop 2 2 2 ∷ begin 0 1 1 ∷ begin 1 1 0 ∷ End ∷ [])) ≡ refused 4 3
+  pub case-l : readOf (textFrom (loop 2 2 2 ∷ begin 0 0 1 ∷ accessIn 0 ∷ accessOut 0 ∷ End ∷ [])) ≡ refused 6 4
