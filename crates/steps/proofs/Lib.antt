@@ -5,3 +5,4 @@ pub mod Playing
 pub mod Answering
 pub mod Made
 pub mod Refusals
+pub mod Running

@@ -178,7 +178,7 @@ module _ (plan : List ℕ) where
           formed-counts = t .formed;
         }
 
-    start-left : (s : Lent) (σ : State) → Tied plan s σ → (a : ℕ) → CanStart (system (planBody plan)) (stateOf (s .counts) (s .values)) a →
+    pub start-left : (s : Lent) (σ : State) → Tied plan s σ → (a : ℕ) → CanStart (system (planBody plan)) (stateOf (s .counts) (s .values)) a →
         Tied plan (lentBy (started plan (s .counts) (s .values) a)) (startState (system (planBody plan)) (stateOf (s .counts) (s .values)) a)
     unfolding startState
     start-left s σ t a k =
@@ -192,7 +192,7 @@ module _ (plan : List ℕ) where
           agree = g;
         }
 
-    finish-left : (s : Lent) (σ : State) → Tied plan s σ → (a : ℕ) → CanFinish (system (planBody plan)) (stateOf (s .counts) (s .values)) a →
+    pub finish-left : (s : Lent) (σ : State) → Tied plan s σ → (a : ℕ) → CanFinish (system (planBody plan)) (stateOf (s .counts) (s .values)) a →
         Tied plan (lentBy (finished plan (s .counts) (s .values) a)) (finishState (system (planBody plan)) (stateOf (s .counts) (s .values)) a)
     unfolding finishState
     finish-left s σ t a k =

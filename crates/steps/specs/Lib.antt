@@ -1,3 +1,5 @@
 pub mod State
 pub mod Answers
 pub mod Calls
+pub mod Running
+pub mod Turns

@@ -12,3 +12,6 @@ pub mod Unread
 pub mod Readiness
 pub mod Numbering
 pub mod Demands
+pub mod Chaining
+pub mod Turning
+pub mod Drawing

@@ -1,3 +1,4 @@
 pub mod Demands
 pub mod Told
 pub mod Items
+pub mod Chains

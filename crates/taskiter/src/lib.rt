@@ -16,11 +16,13 @@ ghost use Rattle.steps.specs.State.{countWords, valueWords, stateOf};
 ghost use Rattle.steps.specs.Answers.{countOk, openOf, startOf, finishOf, resultOf};
 ghost use Rattle.taskiter.specs.Told.{told, toldOpening};
 
+mod chains;
 mod counts;
 mod finishes;
 mod numbers;
 mod openings;
 mod results;
+mod runs;
 mod starts;
 
 use crate::numbers::as_index;

@@ -18,6 +18,27 @@ pub(crate) fn wide_16(x: u16) -> u64
     x as u64
 }
 
+// An item or edge number as an index.
+pub(crate) fn index_16(x: u16) -> usize
+    ensures { λ r. ⌜ r ≡ x ⌝ }
+{
+    x as usize
+}
+
+pub(crate) fn index_32(x: u32) -> usize
+    ensures { λ r. ⌜ r ≡ x ⌝ }
+{
+    x as usize
+}
+
+// An index that 16 bits hold.
+pub(crate) fn narrow_16(x: usize) -> u16
+    requires { ⌜ x < 65536 ⌝ }
+    ensures { λ r. ⌜ r ≡ x ⌝ }
+{
+    x as u16
+}
+
 // A number of passes within its limit.
 fn narrow_32(x: u64) -> u32
     requires { ⌜ x ≤ 1000000 ⌝ }

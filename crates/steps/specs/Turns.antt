@@ -1,0 +1,46 @@
+-- Turns of the run program: with no item running it starts the lowest item that is ready, and finishes it. It serves the contracts of private
+-- functions; `proofs/` shows that these are the steps of Running.
+use Prim.Native.Nat.{ℕ, _+_, _*_, _≤_, _<_}
+use mathlib.Core.Path.{_≡_}
+use mathlib.Core.Bool.{Bool, true, _&&_}
+use mathlib.Core.List.{List}
+use lib.Dec.{ltb}
+use lib.ListN.{length, getD}
+use Rattle.finite.specs.Below.{sumBelow}
+use Rattle.body.specs.Body.{Body}
+use Rattle.body.specs.Items.{itemCount}
+use Rattle.edges.specs.Tests.{waitsTest}
+use Rattle.graph.specs.Answers.{planBody}
+use Rattle.steps.specs.State.{countWords, valueWords, firstFinished}
+use Rattle.steps.specs.Answers.{formedCounts}
+use Rattle.steps.specs.Calls.{Call, isStep, Lent, play}
+use Rattle.steps.specs.Running.{Accepts, Taken}
+
+-- the finished passes of item a
+abbrev pub doneBy : List ℕ → ℕ → ℕ
+doneBy counts a = getD counts (firstFinished + a) 0
+
+-- an item that does not run may start: it has a pass left, and its waits are met
+unfoldable pub isReady : Body → List ℕ → ℕ → Bool
+isReady B counts a = ltb (doneBy counts a) (B .passes) && waitsTest B (doneBy counts) (doneBy counts a) a
+
+module _ (plan : List ℕ) where
+  -- a lent state in form in which no item runs
+  pub record Idle (s : Lent) : Type 0 where
+    pub long-counts : countWords ≤ length (s .counts)
+    pub long-values : valueWords ≤ length (s .values)
+    pub formed : formedCounts plan (s .counts) (s .values) ≡ true
+    pub idle : (a : ℕ) → a < itemCount (planBody plan) → getD (s .counts) a 0 ≡ doneBy (s .counts) a
+
+  -- the state s after some turns from s₀, which took so many steps
+  pub record Going (s₀ s : Lent) (steps : ℕ) : Type 0 where
+    pub calls : List Call
+    pub taken : Taken plan s₀ calls
+    pub reached : s ≡ play plan s₀ calls
+    pub counted : steps ≡ length calls
+    pub idle : Idle s
+    pub sum : steps + 2 * sumBelow (itemCount (planBody plan)) (doneBy (s₀ .counts)) ≡ 2 * sumBelow (itemCount (planBody plan)) (doneBy (s .counts))
+
+  -- no step is accepted
+  abbrev pub Over : Lent → Type 0
+  Over s = (c : Call) → isStep c ≡ true → Accepts plan s c → ⊥
