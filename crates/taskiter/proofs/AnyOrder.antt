@@ -165,28 +165,37 @@ module _ (plan : List ℕ) (long : planWords ≤ length plan) (formed : formedPl
         final = λ g z. results l g z .2;
       }
 
+-- from an accepted opening
+module _ (plan counts values : List ℕ) (z : openOf plan counts values .refusal ≡ 0) where
+  parts : (longSlices plan counts values ≡ true) × (formedPlan plan ≡ true)
+  parts = open-accepted plan counts values .0 z
+
+  sizes : (planWords ≤ length plan) × (countWords ≤ length counts) × (valueWords ≤ length values)
+  sizes = long-slices plan counts values .0 (parts .0)
+
+  tied-opening : Tied plan (lentBy (openOf plan counts values)) (opening (system (planBody plan)))
+  tied-opening = rw (open-opened plan counts values (parts .0) (parts .1)) (opened-tied plan (parts .1) counts values (sizes .1) (sizes .2))
+
+  pub open-order : (l : List Call) → InAnyOrder (planBody plan) plan (lentBy (openOf plan counts values)) l
+  open-order = tied-order plan (sizes .0) (parts .1) (lentBy (openOf plan counts values)) tied-opening
+
+  pub open-clear : (l : List Call) → let s = play plan (lentBy (openOf plan counts values)) l in Clear plan (s .counts) (s .values)
+  open-clear = clear plan (sizes .0) (parts .1) (lentBy (openOf plan counts values)) tied-opening
+
 pub in-any-order : (w behind counts values : List ℕ) → length w ≡ planWords → inForm w ≡ true → countWords ≤ length counts → valueWords ≤ length values →
     (openOf (w ++ behind) counts values .refusal ≡ 0)
     × ((l : List Call) → InAnyOrder (bodyOf w) (w ++ behind) (lentBy (openOf (w ++ behind) counts values)) l)
     × ((l : List Call) → let s = play (w ++ behind) (lentBy (openOf (w ++ behind) counts values)) l in Clear (w ++ behind) (s .counts) (s .values))
 in-any-order w behind counts values size form long-counts long-values = (
-  open-accepted (w ++ behind) counts values .1 (slices, formed),
-  λ l. subst (λ (v : List ℕ). InAnyOrder (bodyOf v) (w ++ behind) (lentBy (openOf (w ++ behind) counts values)) l) front
-      (tied-order (w ++ behind) long formed (lentBy (openOf (w ++ behind) counts values)) tied-opening l),
-  clear (w ++ behind) long formed (lentBy (openOf (w ++ behind) counts values)) tied-opening,
+  accepted,
+  λ l. subst (λ (v : List ℕ). InAnyOrder (bodyOf v) (w ++ behind) (lentBy (openOf (w ++ behind) counts values)) l) front (open-order (w ++ behind) counts values accepted l),
+  open-clear (w ++ behind) counts values accepted,
 )
   where
     front : take planWords (w ++ behind) ≡ w
     front = take-at w behind planWords size
 
-    long : planWords ≤ length (w ++ behind)
-    long = omega (arith, length-append w behind)
-
-    formed : formedPlan (w ++ behind) ≡ true
-    formed = ap inForm front ∙ form
-
-    slices : longSlices (w ++ behind) counts values ≡ true
-    slices = long-slices (w ++ behind) counts values .1 (long, long-counts, long-values)
-
-    tied-opening : Tied (w ++ behind) (lentBy (openOf (w ++ behind) counts values)) (opening (system (planBody (w ++ behind))))
-    tied-opening = rw (open-opened (w ++ behind) counts values slices formed) (opened-tied (w ++ behind) formed counts values long-counts long-values)
+    accepted : openOf (w ++ behind) counts values .refusal ≡ 0
+    accepted =
+        open-accepted (w ++ behind) counts values .1
+        (long-slices (w ++ behind) counts values .1 (omega (arith, length-append w behind), long-counts, long-values), ap inForm front ∙ form)

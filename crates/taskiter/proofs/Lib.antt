@@ -15,3 +15,4 @@ pub mod Demands
 pub mod Chaining
 pub mod Turning
 pub mod Drawing
+pub mod Ending

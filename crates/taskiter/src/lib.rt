@@ -15,6 +15,7 @@ ghost use Rattle.graph.specs.Answers.{refusalOf, ItemsAnswer, EdgesAnswer};
 ghost use Rattle.steps.specs.State.{countWords, valueWords, stateOf};
 ghost use Rattle.steps.specs.Answers.{countOk, openOf, startOf, finishOf, resultOf};
 ghost use Rattle.taskiter.specs.Told.{told, toldOpening};
+ghost use Rattle.taskiter.specs.Run.{Ran};
 
 mod chains;
 mod counts;
@@ -227,5 +228,26 @@ pub extern "C" fn taskiter_result(
     Answer {
         refusal: 0,
         word: results::result_word(words, values, as_index(region)),
+    }
+}
+
+// Opens a lent state for a plan and runs it to its end, in the order of the run program; answers how many steps that took. The plan is looked at
+// once, and not at every step.
+pub fn run(plan: &[u64], counts: &mut [u32], values: &mut [u64]) -> Number
+    ensures { λ r. ⌜
+        Ran (now (plan .entry)) (now (counts .entry)) (now (values .entry)) r (now (counts .exit)) (now (values .exit))
+        ⌝ }
+{
+    let refusal = taskiter_open(plan, counts, values);
+    if refusal != 0 {
+        return Number {
+            refusal: refusal,
+            number: 0,
+        };
+    }
+    let words = &plan[..PLAN_WORDS];
+    Number {
+        refusal: 0,
+        number: runs::run_opened(words, counts, values),
     }
 }
