@@ -129,6 +129,6 @@ module _ (w : List ℕ) (F : Formed w) where
               listed : (a b : ℕ) → a < n → b < n → edgeTest (bodyOf w) a b ≡ true → (e : ℕ) × (e < m) × (fromAt list′ e ≡ a) × (toAt list′ e ≡ b)
               listed a b la lb t =
                   let f = in-at (a, b, distance a b) none l
-                      (every .exactly a b (distance a b) .1 (test-edge (bodyOf w) (plan-fits w (F .formed)) a b (omega (arith, count)) (omega (arith, count)) t)) in
+                  (every .exactly a b (distance a b) .1 (test-edge (bodyOf w) (plan-fits w (F .formed)) a b (omega (arith, count)) (omega (arith, count)) t)) in
                   let h : f .0 < m = omega (arith, f .1) in
                   (f .0, h, at (f .0) h .0 ∙ ap (λ (x : Triple). x .0) (f .2), at (f .0) h .1 ∙ ap (λ (x : Triple). x .1) (f .2))

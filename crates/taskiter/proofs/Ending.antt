@@ -152,8 +152,12 @@ module _ (P C W C1 W1 : List ℕ) (r : ℕ) (o : toldOpening r C1 W1 ≡ openOf 
         where
           less : (finishesOf (planBody P) P (lentBy (openOf P C W)) a calls ≡ planBody P .passes → ⊥) → finishesOf (planBody P) P (lentBy (openOf P C W)) a calls < planBody P .passes
           less n =
-              omega (arith, n, order .counted a l .1,
-              formed-counts P (play P (lentBy (openOf P C W)) calls .counts) (play P (lentBy (openOf P C W)) calls .values) .0 (clear .formed-counts) a l .0)
+              omega (
+                arith,
+                n,
+                order .counted a l .1,
+                formed-counts P (play P (lentBy (openOf P C W)) calls .counts) (play P (lentBy (openOf P C W)) calls .values) .0 (clear .formed-counts) a l .0,
+              )
 
           go : (c : Call) × (isStep c ≡ true) × (call P (play P (lentBy (openOf P C W)) calls) c .refusal ≡ 0) → ⊥
           go (c, s, x) = run-over c s x

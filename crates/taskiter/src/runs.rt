@@ -92,6 +92,15 @@ pub(crate) fn run_opened(plan: &[u64], counts: &mut [u32], values: &mut [u64]) -
     let mut lowest = [0u16; MAX_ITEMS];
     find_lowest(&edges, m, &mut lowest);
     take_turns(
-        plan, &items, &edges, n, m, &heads, &nexts, &lowest, counts, values,
+        plan,
+        &items,
+        &edges,
+        n,
+        m,
+        &heads,
+        &nexts,
+        &lowest,
+        counts,
+        values,
     )
 }

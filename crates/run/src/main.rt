@@ -1,0 +1,162 @@
+// Reads a plan from standard input, runs it to its end and prints its items, its edges, the number of steps, and the value of each region; of a
+// refused text the refusal and the line. Output that is closed ends the program.
+mod lines;
+
+use lines::put;
+use lines::put_end;
+use lines::put_field;
+use lines::write;
+
+// Longer than the lines of any plan: 640 items of at most 20 bytes, 4,224 edges of 15, one line of steps, and 128 values of 31.
+const ROOM: usize = 98304;
+
+fn code_at(table: &[u16], k: usize) -> u64 {
+    if k < table.len() {
+        return wide_16(table[k]);
+    }
+    0
+}
+
+fn number_at(list: &[u32], k: usize) -> u64 {
+    if k < list.len() {
+        return wide_32(list[k]);
+    }
+    0
+}
+
+fn wide_16(x: u16) -> u64 {
+    x as u64
+}
+
+fn wide_32(x: u32) -> u64 {
+    x as u64
+}
+
+// The kind of an item, from its number in the item table.
+fn put_kind(out: &mut [u8], at: usize, code: u64) -> usize {
+    let kind = code / 128 % 4;
+    if kind == 0 {
+        return put(out, at, b" task");
+    }
+    if kind == 1 {
+        return put(out, at, b" send");
+    }
+    put(out, at, b" receive")
+}
+
+fn put_item(out: &mut [u8], at: usize, item: u64, code: u64) -> usize {
+    let head = put(out, at, b"item");
+    let number = put_field(out, head, item);
+    let kind = put_kind(out, number, code);
+    let rank = put_field(out, kind, code / 512);
+    put_end(out, rank)
+}
+
+fn put_items(out: &mut [u8], at: usize, table: &[u16], n: u64) -> usize {
+    let mut to = at;
+    for item in 0..n {
+        to = put_item(out, to, item, code_at(table, item as usize));
+    }
+    to
+}
+
+// Edge k of a list with three numbers an edge.
+fn put_edge(out: &mut [u8], at: usize, list: &[u32], k: usize) -> usize {
+    let first = std::num::wrapping_add_usize(k, std::num::wrapping_add_usize(k, k));
+    let head = put(out, at, b"edge");
+    let from = put_field(out, head, number_at(list, first));
+    let to = put_field(
+        out,
+        from,
+        number_at(list, std::num::wrapping_add_usize(first, 1)),
+    );
+    let distance = put_field(
+        out,
+        to,
+        number_at(list, std::num::wrapping_add_usize(first, 2)),
+    );
+    put_end(out, distance)
+}
+
+fn put_edges(out: &mut [u8], at: usize, list: &[u32], m: u64) -> usize {
+    let mut to = at;
+    for k in 0..m {
+        to = put_edge(out, to, list, k as usize);
+    }
+    to
+}
+
+fn put_value(out: &mut [u8], at: usize, region: u64, word: u64) -> usize {
+    let head = put(out, at, b"value");
+    let number = put_field(out, head, region);
+    let value = put_field(out, number, word);
+    put_end(out, value)
+}
+
+fn put_values(
+    out: &mut [u8],
+    at: usize,
+    plan: &[u64],
+    counts: &[u32],
+    values: &[u64],
+    regions: u64,
+) -> usize {
+    let mut to = at;
+    for region in 0..regions {
+        let answer = taskiter::taskiter_result(plan, counts, values, region);
+        to = put_value(out, to, region, answer.word);
+    }
+    to
+}
+
+// The items and edges of a plan; answers whether they could be written.
+fn print_graph(out: &mut [u8], plan: &[u64]) -> bool {
+    let mut table = [0u16; 640];
+    let mut list = [0u32; 12672];
+    let items = taskiter::taskiter_items(plan, &mut table);
+    let edges = taskiter::taskiter_edges(plan, &mut list);
+    let to = put_items(out, 0, &table, items.number);
+    let end = put_edges(out, to, &list, edges.number);
+    write(out, end)
+}
+
+// The steps and values of a plan, which is run to its end.
+fn print_run(out: &mut [u8], plan: &[u64], regions: u64) {
+    let mut counts = [0u32; 1280];
+    let mut values = [0u64; 3328];
+    let ran = taskiter::run(plan, &mut counts, &mut values);
+    let head = put(out, 0, b"steps");
+    let steps = put_field(out, head, ran.number);
+    let to = put_end(out, steps);
+    let end = put_values(out, to, plan, &counts, &values, regions);
+    write(out, end);
+}
+
+fn print_refusal(out: &mut [u8], refusal: u64, line: u64) {
+    let head = put(out, 0, b"refused");
+    let number = put_field(out, head, refusal);
+    let place = put_field(out, number, line);
+    let end = put_end(out, place);
+    write(out, end);
+}
+
+fn run_text(out: &mut [u8], text: &[u8]) {
+    let mut plan = [0u64; 1668];
+    let answer = taskiter::taskiter_read(text, &mut plan);
+    if answer.refusal != 0 {
+        print_refusal(out, answer.refusal, answer.line);
+        return;
+    }
+    let regions = plan[2];
+    if print_graph(out, &plan) {
+        print_run(out, &plan, regions);
+    }
+}
+
+fn main() {
+    // longer than a text may be, so that of a longer input enough is read to see it
+    let mut text = io::large_buffer();
+    let mut out = [0u8; ROOM];
+    let n = io::read_full(libc::STDIN_FILENO, &mut text);
+    run_text(&mut out, &text[..n]);
+}
