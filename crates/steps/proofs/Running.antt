@@ -291,7 +291,7 @@ answered-by plan s (finish a) = refl
 answered-by plan s (result g) = refl
 
 module _ (plan : List ℕ) (long : planWords ≤ length plan) where
-  cut-again : take planWords (take planWords plan) ≡ take planWords plan
+  pub cut-again : take planWords (take planWords plan) ≡ take planWords plan
   cut-again = take-all planWords (take planWords plan) (omega (arith, length-take-le planWords plan long))
 
   long-cut : longPlan (take planWords plan) ≡ longPlan plan

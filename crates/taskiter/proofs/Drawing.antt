@@ -27,7 +27,7 @@ use Rattle.graph.proofs.Listing.{length-three}
 use Rattle.graph.proofs.Theorems.{laws}
 use Rattle.taskiter.specs.Items.{Formed}
 use Rattle.taskiter.specs.Chains.{fromAt, toAt, Ends, Edges}
-use Rattle.taskiter.proofs.Plans.{items-few}
+use Rattle.taskiter.proofs.Plans.{items-few, plan-long, plan-whole, plan-body, plan-formed}
 use Rattle.taskiter.proofs.Looking.{items-count, items-at}
 
 -- the numbers of edge e in the list
@@ -51,24 +51,12 @@ to-three ((a, b, d) ∷ l) rest (suc e) h =
     ap (λ (i : ℕ). getD (flatMap three ((a, b, d) ∷ l) ++ rest) i 0) k ∙ to-three l rest e (omega arith)
 
 module _ (w : List ℕ) (F : Formed w) where
-  whole : take planWords w ≡ w
-  whole = let h : length w ≤ planWords = omega (arith, F .long) in take-all planWords w h
-
-  body : planBody w ≡ bodyOf w
-  body = ap bodyOf whole
-
-  long : planWords ≤ length w
-  long = omega (arith, F .long)
-
-  formed : formedPlan w ≡ true
-  formed = ap inForm whole ∙ F .formed
-
   module _ (table table′ : List ℕ) (r : Number) (n : ℕ) (size : length table ≡ 640) (A : ItemsAnswer w table r table′) (e : n ≡ r .number) where
     cut-answer : ItemsAnswer (take planWords w) table r table′
-    cut-answer = subst (λ (v : List ℕ). ItemsAnswer v table r table′) (sym whole) A
+    cut-answer = subst (λ (v : List ℕ). ItemsAnswer v table r table′) (sym (plan-whole w F)) A
 
     count : n ≡ itemCount (bodyOf w)
-    count = e ∙ (items-count w long table table′ r size cut-answer formed ∙ ap itemCount body)
+    count = e ∙ (items-count w (plan-long w F) table table′ r size cut-answer (plan-formed w F) ∙ ap itemCount (plan-body w F))
 
     pub drawn-items : Graph w table′ n
     drawn-items =
@@ -77,13 +65,13 @@ module _ (w : List ℕ) (F : Formed w) where
           formed = F .formed;
           count = count;
           most = items-few w (F .formed) n count;
-          each = λ a l. items-at w long table table′ r size cut-answer formed a (subst (λ (B : Body). a < itemCount B) (sym body) (omega (arith, l, count)))
-              ∙ ap (λ (B : Body). codeOf B (itemAt B a)) body;
+          each = λ a l. items-at w (plan-long w F) table table′ r size cut-answer (plan-formed w F) a (subst (λ (B : Body). a < itemCount B) (sym (plan-body w F)) (omega (arith, l, count)))
+              ∙ ap (λ (B : Body). codeOf B (itemAt B a)) (plan-body w F);
         }
 
     module _ (list list′ : List ℕ) (q : Number) (m : ℕ) (room : length list ≡ edgeWords) (D : EdgesAnswer w list q list′) (k : m ≡ q .number) where
       accepted : q .refusal ≡ 0
-      accepted = D .refusal ∙ rw (le-leb planWords (length w) long, le-leb edgeWords (length list) (omega arith), formed)
+      accepted = D .refusal ∙ rw (le-leb planWords (length w) (plan-long w F), le-leb edgeWords (length list) (omega arith), plan-formed w F)
 
       pub drawn-edges : Edges w list′ n m
       drawn-edges = go (D .listed accepted)
@@ -105,7 +93,7 @@ module _ (w : List ℕ) (F : Formed w) where
               }
             where
               every : AllEdges (bodyOf w) l
-              every = subst (λ (B : Body). AllEdges B l) body all
+              every = subst (λ (B : Body). AllEdges B l) (plan-body w F) all
 
               small : 3 * length l ≤ edgeWords
               small = laws .room w (F .formed) l every

@@ -4,8 +4,7 @@ use mathlib.Core.Path.{_≡_, refl, sym, _∙_, ap, subst}
 use mathlib.Core.List.{List, map}
 use native.Mathlib.Nat.{mul-le-mul}
 use native.Mathlib.Omega.{arith}
-use lib.ListN.{length, getD, take}
-use lib.Seq.{take-all}
+use lib.ListN.{getD, take}
 use Rattle.finite.proofs.Collect.{getD-map}
 use Rattle.body.specs.Body.{Fits}
 use Rattle.body.specs.Items.{Item, task, send, receive, kindOf, itemList, itemCount, itemAt}
@@ -19,6 +18,7 @@ use Rattle.graph.specs.Rows.{Task}
 use Rattle.graph.proofs.Lookup.{form, body-fits, code-rank, code-kind, code-subject, code-task, kind-few, task-ready}
 use Rattle.graph.proofs.Theorems.{laws}
 use Rattle.taskiter.specs.Items.{Found}
+use Rattle.taskiter.proofs.Plans.{plan-whole}
 
 -- a send or receive by its kind and subject
 send-of : (x : Item) → kindOf x ≡ 1 → (i : ℕ) × (q : ℕ) × (x ≡ send i (subjectOf x) q)
@@ -112,4 +112,4 @@ module _ (w : List ℕ) (a code : ℕ) (F : Found w a code) where
 
   -- the plan is just as long as its words
   pub whole-plan : take planWords w ≡ w
-  whole-plan = let h : length w ≤ planWords = omega (arith, F .plan .long) in take-all planWords w h
+  whole-plan = plan-whole w (F .plan)

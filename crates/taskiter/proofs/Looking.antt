@@ -24,6 +24,7 @@ use Rattle.graph.specs.Table.{codeOf, tableOf}
 use Rattle.graph.specs.Answers.{refusalOf, longPlan, formedPlan, planBody, isItem, maxItems, sizeAnswer, ItemsAnswer, WaitsAnswer}
 use Rattle.graph.proofs.Small.{form-words, plan-fits}
 use Rattle.graph.proofs.Theorems.{laws}
+use Rattle.steps.proofs.Running.{cut-again}
 
 -- waits met by numbers that are the same
 waits-same : (B : Body) (f g : ℕ → ℕ) (a p : ℕ) → ((b : ℕ) → f b ≡ g b) → WaitsMet B f a p → WaitsMet B g a p
@@ -50,17 +51,14 @@ module _ (P : List ℕ) (long : planWords ≤ length P) where
   pub cut-long : length cut ≡ planWords
   cut-long = length-take-le planWords P long
 
-  cut-again : take planWords cut ≡ cut
-  cut-again = take-all planWords cut (omega (arith, cut-long))
-
   long-cut : longPlan cut ≡ true
   long-cut = le-leb planWords (length cut) (omega (arith, cut-long))
 
   formed-cut : formedPlan cut ≡ formedPlan P
-  formed-cut = ap inForm cut-again
+  formed-cut = ap inForm (cut-again P long)
 
   pub body-cut : planBody cut ≡ planBody P
-  body-cut = ap bodyOf cut-again
+  body-cut = ap bodyOf (cut-again P long)
 
   pub most-items : formedPlan P ≡ true → itemCount (planBody P) ≤ 640
   most-items f = laws .items cut f

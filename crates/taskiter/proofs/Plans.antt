@@ -1,14 +1,17 @@
 -- What a plan in form gives the functions that are lent it: numbers within their limits, and words within the plan.
 use Prim.Native.Nat.{ℕ, _%_, _≤_, _<_}
-use mathlib.Core.Path.{_≡_}
+use mathlib.Core.Path.{_≡_, _∙_, ap}
 use mathlib.Core.Bool.{true}
 use mathlib.Core.List.{List}
 use native.Mathlib.Nat.{mod-lt}
 use native.Mathlib.Omega.{arith}
+use lib.ListN.{length, take}
+use lib.Seq.{take-all}
 use Rattle.body.specs.Items.{itemCount}
-use Rattle.plan.specs.Layout.{passesOf, regionsOf, tasksOf, accessesOf, bodyOf}
+use Rattle.plan.specs.Layout.{planWords, passesOf, regionsOf, tasksOf, accessesOf, bodyOf}
 use Rattle.plan.specs.Form.{inForm}
 use Rattle.plan.proofs.Facts.{formed, Formed as Facts}
+use Rattle.graph.specs.Answers.{formedPlan, planBody}
 use Rattle.graph.proofs.Small.{form-words}
 use Rattle.graph.proofs.Theorems.{laws}
 use Rattle.taskiter.specs.Items.{Formed}
@@ -19,6 +22,20 @@ module _ (w : List ℕ) (h : inForm w ≡ true) where
 
   pub items-few : (n : ℕ) → n ≡ itemCount (bodyOf w) → n ≤ 640
   items-few n e = omega (arith, laws .items w h)
+
+-- a plan is just as long as its words, so what is said of its first words is said of it
+module _ (w : List ℕ) (F : Formed w) where
+  pub plan-long : planWords ≤ length w
+  plan-long = omega (arith, F .long)
+
+  pub plan-whole : take planWords w ≡ w
+  plan-whole = let h : length w ≤ planWords = omega (arith, F .long) in take-all planWords w h
+
+  pub plan-body : planBody w ≡ bodyOf w
+  plan-body = ap bodyOf plan-whole
+
+  pub plan-formed : formedPlan w ≡ true
+  plan-formed = ap inForm plan-whole ∙ F .formed
 
 -- the words of a plan in form as numbers
 pub facts : (w : List ℕ) → Formed w → Facts w

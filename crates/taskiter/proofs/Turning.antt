@@ -29,7 +29,7 @@ use Rattle.taskiter.specs.declared.Answer.{Answer}
 use Rattle.taskiter.specs.Told.{told}
 use Rattle.taskiter.specs.Items.{Formed, Found}
 use Rattle.taskiter.specs.Chains.{fromAt, toAt, Bounded, Edges, FirstReady}
-use Rattle.taskiter.proofs.Plans.{passes-few}
+use Rattle.taskiter.proofs.Plans.{passes-few, plan-long, plan-body, plan-formed}
 use Rattle.taskiter.proofs.Finding.{number-most}
 
 -- a start and then a finish of item a
@@ -53,24 +53,12 @@ module _ (w C W C1 W1 : List ℕ) (a code : ℕ) (r : Answer) (F : Found w a cod
   turn-is C2 W2 q f = ap lentBy f ∙ ap (λ (x : Left). lentBy (finished w (x .counts) (x .values) a)) s
 
 module _ (w : List ℕ) (F : Formed w) where
-  whole : take planWords w ≡ w
-  whole = let h : length w ≤ planWords = omega (arith, F .long) in take-all planWords w h
-
-  body : planBody w ≡ bodyOf w
-  body = ap bodyOf whole
-
-  long : planWords ≤ length w
-  long = omega (arith, F .long)
-
-  formed : formedPlan w ≡ true
-  formed = ap inForm whole ∙ F .formed
-
   pub going-starts : (s : Lent) → Idle w s → Going w s s 0
-  going-starts s I = going-none w long formed s I
+  going-starts s I = going-none w (plan-long w F) (plan-formed w F) s I
 
   -- the steps taken are no more than two for each pass of each item
   pub going-below : (s₀ s : Lent) (steps : ℕ) → Going w s₀ s steps → steps ≤ 2 * (itemCount (bodyOf w) * passesOf w)
-  going-below s₀ s steps G = subst (λ (B : Body). steps ≤ 2 * (itemCount B * B .passes)) body (going-most w long formed s₀ s steps G)
+  going-below s₀ s steps G = subst (λ (B : Body). steps ≤ 2 * (itemCount B * B .passes)) (plan-body w F) (going-most w (plan-long w F) (plan-formed w F) s₀ s steps G)
 
   pub going-small : (s₀ s : Lent) (steps n : ℕ) → Going w s₀ s steps → n ≡ itemCount (bodyOf w) → n ≤ 640 → steps ≤ 1280000000
   going-small s₀ s steps n G e l =
@@ -93,13 +81,13 @@ module _ (w : List ℕ) (F : Formed w) where
 
     module _ (s₀ : Lent) (C W : List ℕ) (steps : ℕ) (G : Going w s₀ (lent C W) steps) (a : ℕ) (la : a < n) (R : FirstReady w C n 0 a) where
       below : a < itemCount (planBody w)
-      below = subst (λ (B : Body). a < itemCount B) (sym body) (omega (arith, la, E .count))
+      below = subst (λ (B : Body). a < itemCount B) (sym (plan-body w F)) (omega (arith, la, E .count))
 
       ready : isReady (planBody w) C a ≡ true
-      ready = subst (λ (B : Body). isReady B C a ≡ true) (sym body) (R .ready la)
+      ready = subst (λ (B : Body). isReady B C a ≡ true) (sym (plan-body w F)) (R .ready la)
 
       none-lower : (b : ℕ) → b < a → isReady (planBody w) C b ≡ false
-      none-lower b l = subst (λ (B : Body). isReady B C b ≡ false) (sym body) (R .none-before b (omega arith) l)
+      none-lower b l = subst (λ (B : Body). isReady B C b ≡ false) (sym (plan-body w F)) (R .none-before b (omega arith) l)
 
       pub turn-item : (items : List ℕ) (code : ℕ) → Graph w items n → code ≡ getD items a 0 →
           Found w a code × (countWords ≤ length C) × (valueWords ≤ length W) × (getD C a 0 < 1000000) × (doneBy C a < 1000000)
@@ -120,10 +108,10 @@ module _ (w : List ℕ) (F : Formed w) where
       -- the state after the turn, and where to look for the next item
       module _ (C2 W2 : List ℕ) (t : lent C2 W2 ≡ lentBy (finished w (started w C W a .counts) (started w C W a .values) a)) where
         pub turn-going : Going w s₀ (lent C2 W2) (steps + 2)
-        turn-going = subst (λ (x : Lent). Going w s₀ x (steps + 2)) (sym t) (going-turn w long formed s₀ (lent C W) steps G a below ready none-lower)
+        turn-going = subst (λ (x : Lent). Going w s₀ x (steps + 2)) (sym t) (going-turn w (plan-long w F) (plan-formed w F) s₀ (lent C W) steps G a below ready none-lower)
 
         done : (b : ℕ) → doneBy C2 b ≡ update (doneBy C) a (suc (doneBy C a)) b
-        done b = ap (λ (x : Lent). doneBy (x .counts) b) t ∙ ended-done w long formed (lent C W) (G .idle) a below ready none-lower b
+        done b = ap (λ (x : Lent). doneBy (x .counts) b) t ∙ ended-done w (plan-long w F) (plan-formed w F) (lent C W) (G .idle) a below ready none-lower b
 
         pub turn-first : (low b : ℕ) → low ≡ getD lowest a 0 → FirstReady w C2 n low b → FirstReady w C2 n 0 b
         turn-first low b e Q = record { most = Q .most; none-before = none-before; ready = Q .ready }
@@ -142,5 +130,5 @@ module _ (w : List ℕ) (F : Formed w) where
 
   pub turns-over : (s₀ : Lent) (C W : List ℕ) (steps n a : ℕ) → Going w s₀ (lent C W) steps → FirstReady w C n 0 a → n ≡ itemCount (bodyOf w) → n ≤ a → Over w (lent C W)
   turns-over s₀ C W steps n a G R e l =
-      none-ready w long formed (lent C W) (G .idle)
-      (λ b lb. subst (λ (B : Body). isReady B C b ≡ false) (sym body) (R .none-before b (omega arith) (let k = subst (λ (B : Body). b < itemCount B) body lb in omega arith)))
+      none-ready w (plan-long w F) (plan-formed w F) (lent C W) (G .idle)
+      (λ b lb. subst (λ (B : Body). isReady B C b ≡ false) (sym (plan-body w F)) (R .none-before b (omega arith) (let k = subst (λ (B : Body). b < itemCount B) (plan-body w F) lb in omega arith)))

@@ -89,7 +89,7 @@ pub(crate) fn run_opened(plan: &[u64], counts: &mut [u32], values: &mut [u64]) -
     let mut heads = [0u16; MAX_ITEMS];
     let mut nexts = [0u16; 4224];
     chain_edges(&edges, m, &mut heads, &mut nexts);
-    let mut lowest = [0u16; MAX_ITEMS];
+    let mut lowest = [640u16; MAX_ITEMS];
     find_lowest(&edges, m, &mut lowest);
     take_turns(
         plan,
