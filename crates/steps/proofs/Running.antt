@@ -2,24 +2,22 @@
 -- and again no item runs.
 use Prim.Native.Nat.{ℕ, suc, _+_, _*_, _≤_, _<_}
 use mathlib.Core.Path.{_≡_, refl, sym, _∙_, ap, ap₂, subst}
-use mathlib.Core.Bool.{Bool, true, false, cond, not, _&&_, _||_}
-use mathlib.Core.Logic.{_↔_}
+use mathlib.Core.Bool.{Bool, true, false, cond, _&&_}
 use mathlib.Core.List.{List, [], _∷_, _++_}
 use native.Mathlib.Decide.{ℕ-discrete}
 use native.Mathlib.Omega.{arith}
 use borrow.Author.Tests.{ltb-true, eq-eqb, lt-ltb, le-leb}
 use lib.Dec.{eqb, ltb, leb}
-use lib.ListN.{length, getD, set, take, length-set, length-append}
+use lib.ListN.{length, getD, set, take, length-append}
 use lib.Seq.{take-all, length-take-le, getD-set-other}
 use Rattle.finite.specs.Below.{allBelow, sumBelow}
 use Rattle.finite.specs.Lists.{mem}
 use Rattle.finite.specs.Update.{update, replaced}
 use Rattle.finite.proofs.Below.{all-ext, sum-le, sum-const, sum-suc}
 use Rattle.finite.proofs.Tests.{and-true, and-intro, and-parts, eqb-from, not-both}
-use Rattle.finite.proofs.Update.{set-at, update-ind, update-same, update-other}
+use Rattle.finite.proofs.Update.{set-at, update-same, update-other}
 use Rattle.unroll.specs.Sequential.{wordOn}
 use Rattle.unroll.specs.Machine.{State, finishState}
-use Rattle.unroll.specs.Meaning.{StartRule}
 use Rattle.body.specs.Body.{Body}
 use Rattle.body.specs.Items.{itemCount}
 use Rattle.body.specs.Places.{system, resultOf as regionResult}

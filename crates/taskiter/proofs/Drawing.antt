@@ -2,12 +2,10 @@
 use Prim.Native.Nat.{ℕ, zero, suc, _+_, _*_, _≤_, _<_}
 use mathlib.Core.Path.{_≡_, refl, sym, _∙_, ap, subst}
 use mathlib.Core.Bool.{true}
-use mathlib.Core.List.{List, [], _∷_, _++_, flatMap, List·Memᴰ as In}
+use mathlib.Core.List.{List, [], _∷_, _++_, flatMap}
 use native.Mathlib.Omega.{arith}
 use borrow.Author.Tests.{le-leb}
-use lib.Dec.{leb}
-use lib.ListN.{length, getD, take, drop, replicate, length-append, length-drop, length-replicate}
-use lib.Seq.{take-all}
+use lib.ListN.{length, getD, take, drop, length-append, length-drop}
 use Rattle.finite.proofs.Members.{in-at, at-in}
 use Rattle.unroll.specs.Edges.{Edge}
 use Rattle.unroll.proofs.Edges.{edge-from, edge-to}
@@ -18,15 +16,14 @@ use Rattle.edges.specs.Rule.{Triple, AllEdges}
 use Rattle.edges.specs.Tests.{distance, edgeTest}
 use Rattle.edges.proofs.Decided.{edge-test, test-edge}
 use Rattle.plan.specs.Layout.{planWords, bodyOf}
-use Rattle.plan.specs.Form.{inForm}
 use Rattle.graph.specs.declared.Number.{Number}
 use Rattle.graph.specs.Table.{codeOf, Graph}
-use Rattle.graph.specs.Answers.{edgeWords, maxItems, longPlan, formedPlan, planBody, three, ItemsAnswer, EdgesAnswer}
+use Rattle.graph.specs.Answers.{edgeWords, planBody, three, ItemsAnswer, EdgesAnswer}
 use Rattle.graph.proofs.Small.{plan-fits, plan-small}
 use Rattle.graph.proofs.Listing.{length-three}
 use Rattle.graph.proofs.Theorems.{laws}
 use Rattle.taskiter.specs.Items.{Formed}
-use Rattle.taskiter.specs.Chains.{fromAt, toAt, Ends, Edges}
+use Rattle.taskiter.specs.Chains.{fromAt, toAt, Edges}
 use Rattle.taskiter.proofs.Plans.{items-few, plan-long, plan-whole, plan-body, plan-formed}
 use Rattle.taskiter.proofs.Looking.{items-count, items-at}
 

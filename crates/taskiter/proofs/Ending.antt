@@ -1,7 +1,7 @@
 -- Running to the end, from what opening and the turns leave: P, C and W are the lent plan, counts and values, and C1 and W1 what the opening leaves.
-use Prim.Native.Nat.{ℕ, suc, _+_, _*_, _≤_, _<_}
+use Prim.Native.Nat.{ℕ, _+_, _≤_, _<_}
 use mathlib.Core.Path.{_≡_, refl, sym, _∙_, ap, subst}
-use mathlib.Core.Bool.{Bool, true, cond}
+use mathlib.Core.Bool.{true}
 use mathlib.Core.Logic.{⊎-elim}
 use mathlib.Core.List.{List, [], _∷_}
 use native.Mathlib.Decide.{ℕ-discrete, decLt}
@@ -13,7 +13,6 @@ use Rattle.body.specs.Body.{Body}
 use Rattle.body.specs.Items.{itemCount}
 use Rattle.body.specs.Loop.{loopFinal}
 use Rattle.plan.specs.Layout.{planWords}
-use Rattle.graph.specs.declared.Number.{Number}
 use Rattle.graph.specs.Answers.{formedPlan, planBody}
 use Rattle.steps.specs.State.{countWords, valueWords, firstFinished, stateOf}
 use Rattle.steps.specs.Answers.{Left, countOk, longSlices, openOf, resultOf}

@@ -1,34 +1,31 @@
 -- Turns in code: what a turn leaves, and that taking them from the lowest item that is ready on is the run program's order.
-use Prim.Native.Nat.{ℕ, suc, _+_, _-_, _*_, _≤_, _<_}
-use mathlib.Core.Path.{_≡_, refl, sym, _∙_, ap, ap₂, subst}
-use mathlib.Core.Bool.{Bool, true, false, cond}
+use Prim.Native.Nat.{ℕ, suc, _+_, _*_, _≤_, _<_}
+use mathlib.Core.Path.{_≡_, refl, sym, _∙_, ap, subst}
+use mathlib.Core.Bool.{Bool, true, false}
 use mathlib.Core.List.{List}
-use native.Mathlib.Decide.{ℕ-discrete}
 use native.Mathlib.Nat.{mul-le-mul}
 use native.Mathlib.Omega.{arith}
 use borrow.Author.Tests.{ltb-true, ltb-false, eq-eqb}
-use lib.Dec.{eqb, ltb}
-use lib.ListN.{length, getD, set, take, length-set}
-use lib.Seq.{take-all, getD-set-other}
+use lib.Dec.{ltb}
+use lib.ListN.{length, getD, set, length-set}
+use lib.Seq.{getD-set-other}
 use Rattle.finite.proofs.Tests.{and-true, false-of}
 use Rattle.finite.specs.Update.{update}
 use Rattle.body.specs.Body.{Body}
-use Rattle.body.specs.Items.{itemCount, itemAt}
+use Rattle.body.specs.Items.{itemCount}
 use Rattle.edges.specs.Tests.{edgeTest, waitsTest}
-use Rattle.plan.specs.Layout.{planWords, bodyOf, passesOf}
-use Rattle.plan.specs.Form.{inForm}
-use Rattle.graph.specs.Answers.{formedPlan, planBody}
-use Rattle.graph.specs.Table.{codeOf, Graph}
-use Rattle.steps.specs.State.{countWords, valueWords, firstFinished, firstHeld}
+use Rattle.plan.specs.Layout.{bodyOf, passesOf}
+use Rattle.graph.specs.Answers.{planBody}
+use Rattle.graph.specs.Table.{Graph}
+use Rattle.steps.specs.State.{countWords, valueWords, firstHeld}
 use Rattle.steps.specs.Answers.{Left, wordNow, started, finished}
 use Rattle.steps.specs.Calls.{Lent, lent, lentBy}
 use Rattle.steps.specs.Turns.{doneBy, isReady, Idle, Going, Over}
-use Rattle.steps.proofs.Accepting.{formed-counts}
 use Rattle.steps.proofs.Running.{ready-stays, ended-done, going-none, going-most, going-turn, none-ready}
 use Rattle.taskiter.specs.declared.Answer.{Answer}
 use Rattle.taskiter.specs.Told.{told}
 use Rattle.taskiter.specs.Items.{Formed, Found}
-use Rattle.taskiter.specs.Chains.{fromAt, toAt, Bounded, Edges, FirstReady}
+use Rattle.taskiter.specs.Chains.{toAt, Bounded, Edges, FirstReady}
 use Rattle.taskiter.proofs.Plans.{passes-few, plan-long, plan-body, plan-formed}
 use Rattle.taskiter.proofs.Finding.{number-most}
 
