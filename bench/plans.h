@@ -120,6 +120,18 @@ static int blocks_plan(char *text) {
     return at;
 }
 
+/* Gives a plan's text another number of passes, in its first line, and answers its length. */
+static inline int with_passes(char *text, int length, int passes) {
+    char line[64];
+    int from = (int)strlen("loop\t"), to = from;
+    while (text[to] != '\t')
+        to++;
+    int size = snprintf(line, sizeof line, "%d", passes);
+    memmove(text + from + size, text + to, (size_t)(length - to));
+    memcpy(text + from, line, (size_t)size);
+    return length - (to - from) + size;
+}
+
 /* A plan by its name; 0 if there is none. */
 static int named_plan(char *text, const char *name) {
     if (strcmp(name, "example") == 0)

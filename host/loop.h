@@ -1,0 +1,31 @@
+/* The unrolled loop that runs are compared with: one cell a region, the tasks in body order, pass after pass. It knows neither ranks nor
+   transfers, and has kernels of its own. */
+#ifndef HOST_LOOP_H
+#define HOST_LOOP_H
+
+#include <stdint.h>
+
+#include "plan.h"
+
+/* `passes` of the loop have been run: the cells are as they stand after them, and the words of each are kept. */
+struct loop {
+    const struct plan *plan;
+    int passes, room;
+    uint64_t cells[MAX_REGIONS];
+    uint64_t *words;
+};
+
+/* The word of a task that has these reads. */
+uint64_t kernel_word(const struct task *task, const uint64_t *read);
+
+/* Begins a loop that has run no pass. loop_end gives back its memory. */
+void loop_begin(struct loop *loop, const struct plan *plan);
+void loop_end(struct loop *loop);
+
+/* The word of a task in a pass of the plan; runs the loop as far as that. */
+uint64_t loop_word(struct loop *loop, int pass, int task);
+
+/* The final number of a region; runs the loop to its end. */
+uint64_t loop_final(struct loop *loop, int region);
+
+#endif

@@ -1,0 +1,141 @@
+#include "model.h"
+
+#include "loop.h"
+
+void make_shape(const uint64_t *words, struct shape *shape) {
+    shape->formed = plan_of_words(words, &shape->plan);
+    if (shape->formed)
+        make_graph(&shape->plan, &shape->graph);
+}
+
+static uint32_t started(const struct memory *memory, int item) {
+    return memory->counts[item];
+}
+
+static uint32_t finished(const struct memory *memory, int item) {
+    return memory->counts[MAX_ITEMS + item];
+}
+
+/* Whether every item's counts can stand: as many passes started as finished, or one more with a pass left. */
+static bool counts_formed(const struct shape *shape, const struct memory *memory) {
+    uint64_t passes = (uint64_t)shape->plan.passes;
+    for (int a = 0; a < shape->graph.items; a++) {
+        uint64_t s = started(memory, a), f = finished(memory, a);
+        if (f > passes || !(s == f || (s == f + 1 && f < passes)))
+            return false;
+    }
+    return true;
+}
+
+bool complete(const struct shape *shape, const struct memory *memory) {
+    for (int a = 0; a < shape->graph.items; a++)
+        if (finished(memory, a) != (uint32_t)shape->plan.passes)
+            return false;
+    return true;
+}
+
+/* Whether everything has finished that the item's next pass waits for. */
+static bool waits_met(const struct shape *shape, const struct memory *memory, int item) {
+    const struct graph *graph = &shape->graph;
+    uint32_t pass = finished(memory, item);
+    for (int e = graph->first_into[item]; e < graph->first_into[item + 1]; e++)
+        if (finished(memory, graph->into[e].from) + (uint32_t)graph->into[e].distance < pass + 1)
+            return false;
+    return true;
+}
+
+static uint64_t start_refusal(const struct shape *shape, const struct memory *memory, int item) {
+    if (finished(memory, item) == (uint32_t)shape->plan.passes)
+        return 14;
+    if (started(memory, item) != finished(memory, item))
+        return 15;
+    return waits_met(shape, memory, item) ? 0 : 16;
+}
+
+static uint64_t finish_refusal(const struct memory *memory, int item) {
+    return started(memory, item) == finished(memory, item) ? 17 : 0;
+}
+
+bool is_free(enum call call, const struct shape *shape, const struct memory *memory, int item) {
+    return (call == START_CALL ? start_refusal(shape, memory, item) : finish_refusal(memory, item)) == 0;
+}
+
+static void open_state(const struct shape *shape, struct memory *memory) {
+    const struct plan *plan = &shape->plan;
+    for (int q = 0; q < plan->ranks; q++)
+        for (int g = 0; g < plan->regions; g++)
+            memory->values[q * plan->regions + g] = plan->start[g];
+    for (int a = 0; a < shape->graph.items; a++) {
+        memory->counts[a] = memory->counts[MAX_ITEMS + a] = 0;
+        memory->values[FIRST_HELD + a] = 0;
+        if (shape->graph.item[a].kind == SEND)
+            memory->values[FIRST_SLOT + a] = 0;
+    }
+}
+
+/* The word of an item: what a task computes from its reads, or the one that a send or receive reads. */
+static uint64_t item_word(const struct shape *shape, const struct memory *memory, const struct item *item) {
+    uint64_t read[MAX_PLACES];
+    int count = 0;
+    for (int t = 0; t < item->touches; t++)
+        if (item->touch[t].read)
+            read[count++] = memory->values[item->touch[t].place];
+    return item->kind == TASK ? kernel_word(&shape->plan.task[item->task], read) : read[0];
+}
+
+static uint64_t start_item(const struct shape *shape, struct memory *memory, int item) {
+    memory->counts[item]++;
+    return memory->values[FIRST_HELD + item] = item_word(shape, memory, &shape->graph.item[item]);
+}
+
+static uint64_t finish_item(const struct shape *shape, struct memory *memory, int a) {
+    const struct item *item = &shape->graph.item[a];
+    uint64_t word = memory->values[FIRST_HELD + a];
+    memory->counts[MAX_ITEMS + a]++;
+    for (int t = 0; t < item->touches; t++)
+        if (item->touch[t].written)
+            memory->values[item->touch[t].place] = word;
+    return word;
+}
+
+static uint64_t region_word(const struct plan *plan, const struct memory *memory, int region) {
+    int writer = last_writer(plan, region);
+    return writer < 0 || plan->passes == 0 ? plan->start[region] : memory->values[plan->task[writer].rank * plan->regions + region];
+}
+
+static bool too_short(struct lengths lengths) {
+    return lengths.plan < PLAN_WORDS || lengths.counts < COUNTS || lengths.values < VALUES;
+}
+
+static uint64_t refusal_of(enum call call, const struct shape *shape, const struct memory *memory, struct lengths lengths, uint64_t number) {
+    if (too_short(lengths))
+        return 11;
+    if (!shape->formed || (call != OPEN_CALL && !counts_formed(shape, memory)))
+        return 12;
+    if (call == OPEN_CALL)
+        return 0;
+    if (number >= (uint64_t)(call == RESULT_CALL ? shape->plan.regions : shape->graph.items))
+        return 13;
+    if (call == START_CALL)
+        return start_refusal(shape, memory, (int)number);
+    if (call == FINISH_CALL)
+        return finish_refusal(memory, (int)number);
+    return complete(shape, memory) ? 0 : 18;
+}
+
+struct answer model_call(enum call call, const struct shape *shape, struct memory *memory, struct lengths lengths, uint64_t number) {
+    uint64_t refusal = refusal_of(call, shape, memory, lengths, number);
+    if (refusal != 0)
+        return (struct answer){refusal, 0};
+    switch (call) {
+    case START_CALL:
+        return (struct answer){0, start_item(shape, memory, (int)number)};
+    case FINISH_CALL:
+        return (struct answer){0, finish_item(shape, memory, (int)number)};
+    case RESULT_CALL:
+        return (struct answer){0, region_word(&shape->plan, memory, (int)number)};
+    default:
+        open_state(shape, memory);
+        return (struct answer){0, 0};
+    }
+}

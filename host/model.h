@@ -1,0 +1,52 @@
+/* What a call of the runtime has to answer, and what it has to leave in the slices lent to it, straight from the paper. It uses nothing of the
+   runtime. */
+#ifndef HOST_MODEL_H
+#define HOST_MODEL_H
+
+#include <stddef.h>
+#include <stdint.h>
+
+#include "graph.h"
+#include "plan.h"
+
+enum { COUNTS = 2 * MAX_ITEMS, FIRST_HELD = PLACES, VALUES = FIRST_HELD + MAX_ITEMS, GUARD = 32 };
+
+/* The slices of a call, each between guards that nobody may change. */
+struct memory {
+    uint64_t plan_front[GUARD], plan[PLAN_WORDS], plan_behind[GUARD];
+    uint32_t counts_front[GUARD], counts[COUNTS], counts_behind[GUARD];
+    uint64_t values_front[GUARD], values[VALUES], values_behind[GUARD];
+};
+
+/* The lengths that a call says. */
+struct lengths {
+    size_t plan, counts, values;
+};
+
+/* What the words of a plan are: not in form, or a plan with its graph. */
+struct shape {
+    bool formed;
+    struct plan plan;
+    struct graph graph;
+};
+
+/* A refusal and word 0, or refusal 0 and the word. */
+struct answer {
+    uint64_t refusal, word;
+};
+
+enum call { OPEN_CALL, START_CALL, FINISH_CALL, RESULT_CALL, CALLS };
+
+/* Finds what the plan's words are. */
+void make_shape(const uint64_t *words, struct shape *shape);
+
+/* Makes a call on the memory, whose plan has this shape. The number is the item's or region's. */
+struct answer model_call(enum call call, const struct shape *shape, struct memory *memory, struct lengths lengths, uint64_t number);
+
+/* Whether every item has finished every pass. */
+bool complete(const struct shape *shape, const struct memory *memory);
+
+/* Whether a start or finish of the item is accepted, in a state whose counts are in form. */
+bool is_free(enum call call, const struct shape *shape, const struct memory *memory, int item);
+
+#endif

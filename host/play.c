@@ -1,0 +1,104 @@
+#include "play.h"
+
+#include <inttypes.h>
+#include <stdio.h>
+#include <string.h>
+
+#include "reading.h"
+
+enum { FEW_PASSES = 100 };
+
+/* A text by lot of a plan that can be played in a moment. */
+static size_t text_by_lot(struct play *play, struct lot *lot, char *text) {
+    do
+        draw_plan(lot, MIDDLE, &play->plan);
+    while (play->plan.passes == 0 || play->plan.passes > FEW_PASSES);
+    return (size_t)draw_text(lot, &play->plan, text);
+}
+
+/* The text in the file; longer ones are cut where the reader refuses them all the same. */
+static bool text_of_file(const char *file, char *text, size_t *length) {
+    FILE *from = fopen(file, "rb");
+    if (from == NULL) {
+        perror(file);
+        return false;
+    }
+    *length = fread(text, 1, TEXT_LIMIT + 1, from);
+    fclose(from);
+    return true;
+}
+
+/* Asks for the items and edges, and finds whose word each item has: a send and its receive follow their writer. */
+static bool take_graph(struct play *play) {
+    taskiter_number n = taskiter_items(play->words, TASKITER_PLAN_WORDS, play->item, TASKITER_MAX_ITEMS);
+    taskiter_number m = taskiter_edges(play->words, TASKITER_PLAN_WORDS, play->edge, TASKITER_EDGE_NUMBERS);
+    play->items = (int)n.number;
+    play->edges = (int)m.number;
+    for (int a = 0, task = -1; a < play->items; a++)
+        play->task[a] = task += play->item[a] / 128 % 4 == 0;
+    return n.refusal == 0 && m.refusal == 0;
+}
+
+bool play_begin(struct play *play, const char *file, struct lot *lot) {
+    static char text[TEXT_ROOM];
+    size_t length;
+    memset(play, 0, sizeof *play);
+    if (file == NULL || strcmp(file, "-") == 0)
+        length = text_by_lot(play, lot, text);
+    else if (!text_of_file(file, text, &length))
+        return false;
+    taskiter_reading reading = taskiter_read((const uint8_t *)text, length, play->words, TASKITER_PLAN_WORDS);
+    struct reading expected = read_text((const uint8_t *)text, length, &play->plan);
+    if (reading.refusal != (uint64_t)expected.refusal || reading.line != (uint64_t)expected.line)
+        printf("expected refusal %d, line %d\n", expected.refusal, expected.line);
+    if (reading.refusal != 0 || expected.refusal != 0) {
+        printf("refused %" PRIu64 " %" PRIu64 "\n", reading.refusal, reading.line);
+        return false;
+    }
+    loop_begin(&play->loop, &play->plan);
+    return taskiter_open(play->words, TASKITER_PLAN_WORDS, play->counts, TASKITER_COUNTS, play->values, TASKITER_VALUES) == 0 && take_graph(play);
+}
+
+int play_rank(const struct play *play, int item) {
+    return play->item[item] / 512;
+}
+
+long play_length(const struct play *play) {
+    return 2L * play->plan.passes * play->items;
+}
+
+/* Counts a step; one that is accepted has the word of its pass in the unrolled loop. */
+static uint64_t count_step(struct play *play, int item, int *passes, taskiter_answer answer) {
+    if (answer.refusal != 0) {
+        play->refused++;
+        return answer.refusal;
+    }
+    play->steps++;
+    play->differ += answer.word != loop_word(&play->loop, (*passes)++, play->task[item]);
+    return 0;
+}
+
+uint64_t play_start(struct play *play, int item) {
+    taskiter_answer answer =
+        taskiter_start(play->words, TASKITER_PLAN_WORDS, play->counts, TASKITER_COUNTS, play->values, TASKITER_VALUES, (uint64_t)item);
+    return count_step(play, item, &play->started[item], answer);
+}
+
+uint64_t play_finish(struct play *play, int item) {
+    taskiter_answer answer =
+        taskiter_finish(play->words, TASKITER_PLAN_WORDS, play->counts, TASKITER_COUNTS, play->values, TASKITER_VALUES, (uint64_t)item);
+    return count_step(play, item, &play->finished[item], answer);
+}
+
+int play_end(struct play *play) {
+    for (int g = 0; g < play->plan.regions; g++) {
+        taskiter_answer answer =
+            taskiter_result(play->words, TASKITER_PLAN_WORDS, play->counts, TASKITER_COUNTS, play->values, TASKITER_VALUES, (uint64_t)g);
+        play->differ += answer.refusal != 0 || answer.word != loop_final(&play->loop, g);
+        printf("value %d %" PRIu64 "\n", g, answer.word);
+    }
+    loop_end(&play->loop);
+    play->differ += play->steps != play_length(play);
+    printf("%ld differ from the unrolled loop\n", play->differ);
+    return play->differ == 0 ? 0 : 1;
+}

@@ -1,0 +1,23 @@
+/* A host that chooses by lot: random [FILE|- [SEED]]. It plays the plan in the file, or one by lot, by trying starts and finishes of any item
+   until the loop is complete. Prints the steps taken, the tries refused and the values. Exit status 0 where each word and value is the
+   unrolled loop's. */
+#include <stdio.h>
+#include <stdlib.h>
+
+#include "play.h"
+
+int main(int argc, char **argv) {
+    static struct play play;
+    struct lot lot = lot_of(argc > 2 ? strtoull(argv[2], NULL, 10) : 1, 0);
+    if (!play_begin(&play, argc > 1 ? argv[1] : NULL, &lot))
+        return 1;
+    while (play.steps < play_length(&play)) {
+        int item = draw_below(&lot, play.items);
+        if (draw_below(&lot, 2) == 0)
+            play_start(&play, item);
+        else
+            play_finish(&play, item);
+    }
+    printf("items %d\nsteps %ld\nrefused tries %ld\n", play.items, play.steps, play.refused);
+    return play_end(&play);
+}

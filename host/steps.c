@@ -1,0 +1,244 @@
+/* The groups of stress that play plans, and what the groups share. */
+#include <inttypes.h>
+#include <stdlib.h>
+#include <string.h>
+
+#include "../include/taskiter.h"
+#include "groups.h"
+#include "loop.h"
+
+enum { FEW_STEPS = 400 };
+
+enum size size_of(long number) {
+    return number % 32 == 31 ? LARGEST : number % 16 == 7 ? LARGE : number % 4 == 2 ? MIDDLE : SMALL;
+}
+
+void put_drawn_plan(struct trial *trial, struct lot *lot) {
+    static struct plan plan;
+    draw_plan(lot, size_of(trial->number), &plan);
+    fill_memory(trial, lot);
+    put_plan(trial, &plan);
+}
+
+uint64_t draw_asked(struct lot *lot, int n) {
+    switch (draw_below(lot, 24)) {
+    case 0:
+        return (uint64_t)n;
+    case 1:
+        return (uint64_t)(n + draw_below(lot, 3 * MAX_ITEMS));
+    case 2:
+        return draw_word(lot);
+    case 3:
+        return UINT64_MAX;
+    case 4:
+        return (UINT64_C(1) << (8 + draw_below(lot, 56))) + (uint64_t)draw_below(lot, n);
+    default:
+        return (uint64_t)draw_below(lot, n);
+    }
+}
+
+struct lengths draw_enough(struct lot *lot) {
+    struct lengths lengths = least;
+    if (draw_below(lot, 4) == 0) {
+        lengths.plan += (size_t)draw_below(lot, GUARD);
+        lengths.counts += (size_t)draw_below(lot, GUARD);
+        lengths.values += (size_t)draw_below(lot, GUARD);
+    }
+    return lengths;
+}
+
+/* One play of a plan from a fresh opening: how it chooses, and how far it is. */
+struct order {
+    struct loop loop;
+    int blind, starts, pick;
+    long steps;
+};
+
+/* An accepted step has the word of the unrolled loop. */
+static void compare_word(struct trial *trial, struct order *order, enum call call, int item, uint64_t word) {
+    int pass = (int)trial->expected.counts[call == START_CALL ? item : MAX_ITEMS + item] - 1;
+    uint64_t expected = loop_word(&order->loop, pass, trial->shape.graph.item[item].task);
+    order->steps++;
+    if (word != expected)
+        differ(trial, "item %d has %" PRIu64 " in pass %d, the unrolled loop %" PRIu64, item, word, pass, expected);
+}
+
+int find_free(struct trial *trial, struct lot *lot, int pick, enum call call) {
+    int n = trial->shape.graph.items, from = pick < 2 ? 0 : draw_below(lot, n);
+    for (int k = 0; k < n; k++) {
+        int item = pick == 1 ? n - 1 - k : (from + k) % n;
+        if (is_free(call, &trial->shape, &trial->expected, item))
+            return item;
+    }
+    return -1;
+}
+
+/* Takes a step that is free. While an item has a pass left there is one. */
+static void take_free(struct trial *trial, struct lot *lot, struct order *order) {
+    enum call call = draw_below(lot, 100) < order->starts ? START_CALL : FINISH_CALL;
+    int item = find_free(trial, lot, order->pick, call);
+    if (item < 0) {
+        call = call == START_CALL ? FINISH_CALL : START_CALL;
+        item = find_free(trial, lot, order->pick, call);
+    }
+    if (item < 0)
+        differ(trial, "no step is free, and the loop is not complete");
+    struct answer answer = try_call(trial, call, draw_enough(lot), (uint64_t)item);
+    compare_word(trial, order, call, item, answer.word);
+}
+
+/* Makes a call that may well be refused. */
+static void take_blind(struct trial *trial, struct lot *lot, struct order *order) {
+    static const enum call calls[] = {START_CALL, START_CALL, START_CALL, FINISH_CALL, FINISH_CALL, RESULT_CALL};
+    enum call call = calls[draw_below(lot, 6)];
+    uint64_t asked = draw_asked(lot, call == RESULT_CALL ? trial->shape.plan.regions : trial->shape.graph.items);
+    struct answer answer = try_call(trial, call, draw_enough(lot), asked);
+    if (answer.refusal == 0 && call != RESULT_CALL)
+        compare_word(trial, order, call, (int)asked, answer.word);
+}
+
+/* At the end the steps are two for each pass of each item, and the results are the final numbers. */
+static void compare_end(struct trial *trial, struct order *order) {
+    const struct plan *plan = &trial->shape.plan;
+    long expected = 2L * plan->passes * trial->shape.graph.items;
+    if (order->steps != expected)
+        differ(trial, "%ld steps were accepted, expected %ld", order->steps, expected);
+    for (int g = 0; g < plan->regions; g++) {
+        uint64_t word = try_call(trial, RESULT_CALL, least, (uint64_t)g).word;
+        if (word != loop_final(&order->loop, g))
+            differ(trial, "region %d has %" PRIu64 ", the unrolled loop %" PRIu64, g, word, loop_final(&order->loop, g));
+    }
+}
+
+/* Plays the plan in the memory from its opening to the end, or some steps of it where it has a million passes. */
+static void play_plan(struct trial *trial, struct lot *lot) {
+    static const int parts[] = {5, 50, 95};
+    struct order order = {.blind = parts[draw_below(lot, 3)] / 2, .starts = parts[draw_below(lot, 3)], .pick = draw_below(lot, 4)};
+    bool whole = trial->shape.plan.passes < MAX_PASSES / 2;
+    loop_begin(&order.loop, &trial->shape.plan);
+    try_call(trial, OPEN_CALL, draw_enough(lot), 0);
+    while (!complete(&trial->shape, &trial->expected) && (whole || order.steps < FEW_STEPS)) {
+        if (draw_below(lot, 100) < order.blind)
+            take_blind(trial, lot, &order);
+        else
+            take_free(trial, lot, &order);
+    }
+    if (whole) {
+        compare_end(trial, &order);
+        for (int k = 0; k < 10; k++)
+            take_blind(trial, lot, &order);
+    }
+    loop_end(&order.loop);
+}
+
+void steps_group(struct trial *trial, struct lot *lot) {
+    put_drawn_plan(trial, lot);
+    play_plan(trial, lot);
+}
+
+/* The edges are those of the rule, tried on all pairs. */
+static void try_rule(struct trial *trial) {
+    const struct graph *graph = &trial->shape.graph;
+    int e = 0;
+    for (int a = 0; a < graph->items; a++)
+        for (int b = 0; b < graph->items; b++)
+            for (int d = 0; d < 3; d++) {
+                bool listed = e < graph->edges && graph->edge[e].from == a && graph->edge[e].to == b && graph->edge[e].distance == d;
+                if (listed != rule_holds(graph, a, b, d))
+                    differ(trial, "the rule and the walk do not agree on the edge %d %d %d", a, b, d);
+                e += listed;
+            }
+}
+
+void graph_group(struct trial *trial, struct lot *lot) {
+    put_drawn_plan(trial, lot);
+    try_rule(trial);
+    if (size_of(trial->number) == LARGEST && trial->shape.graph.items != MAX_ITEMS)
+        differ(trial, "a largest plan has %d items", trial->shape.graph.items);
+    try_items(trial, PLAN_WORDS + (size_t)draw_below(lot, GUARD), ITEM_ROOM + (size_t)draw_below(lot, GUARD));
+    try_edges(trial, PLAN_WORDS + (size_t)draw_below(lot, GUARD), EDGE_ROOM + (size_t)draw_below(lot, GUARD));
+}
+
+static void *room(size_t size) {
+    void *block = malloc(size > 0 ? size : 1);
+    if (block == NULL)
+        exit(2);
+    return block;
+}
+
+/* Slices of exactly these lengths, which hold nothing yet. */
+static struct slices bare_slices(struct lengths lengths) {
+    return (struct slices){room(lengths.plan * sizeof(uint64_t)), room(lengths.counts * sizeof(uint32_t)), room(lengths.values * sizeof(uint64_t))};
+}
+
+static void free_slices(struct slices slices) {
+    free(slices.plan);
+    free(slices.counts);
+    free(slices.values);
+}
+
+static struct answer try_bare(struct trial *trial, struct slices slices, enum call call, uint64_t number) {
+    struct answer expected = model_call(call, &trial->shape, &trial->expected, least, number);
+    compare_answer(trial, call, number, expected, runtime_call(call, slices, least, number));
+    return expected;
+}
+
+/* Steps by lot to the end, or some hundreds. */
+static void play_bare(struct trial *trial, struct lot *lot, struct slices slices) {
+    int n = trial->shape.graph.items;
+    try_bare(trial, slices, OPEN_CALL, 0);
+    for (int k = 0; k < FEW_STEPS && !complete(&trial->shape, &trial->expected); k++) {
+        enum call call = draw_below(lot, 2) == 0 ? START_CALL : FINISH_CALL;
+        int item = find_free(trial, lot, 2, call);
+        try_bare(trial, slices, call, (uint64_t)(item < 0 ? draw_below(lot, n) : item));
+    }
+    for (int g = 0; g < trial->shape.plan.regions; g++)
+        try_bare(trial, slices, RESULT_CALL, (uint64_t)g);
+}
+
+/* Reads a text of the plan that ends where its block ends. */
+static void read_bare(struct trial *trial, struct lot *lot, struct slices slices) {
+    static char text[TEXT_ROOM];
+    size_t length = (size_t)draw_text(lot, &trial->shape.plan, text);
+    uint8_t *block = room(length);
+    memcpy(block, text, length);
+    taskiter_reading reading = taskiter_read(block, length, slices.plan, PLAN_WORDS);
+    count_answer(trial, reading.refusal);
+    if (reading.refusal != 0 || memcmp(slices.plan, trial->expected.plan, sizeof trial->expected.plan) != 0)
+        differ(trial, "reading gives another plan");
+    free(block);
+}
+
+/* Asks for items and edges in blocks of the least lengths. */
+static void graph_bare(struct trial *trial, struct slices slices) {
+    uint16_t *items = room(ITEM_ROOM * sizeof *items);
+    uint32_t *edges = room(EDGE_ROOM * sizeof *edges);
+    taskiter_number n = taskiter_items(slices.plan, PLAN_WORDS, items, ITEM_ROOM), m = taskiter_edges(slices.plan, PLAN_WORDS, edges, EDGE_ROOM);
+    count_answer(trial, n.refusal);
+    count_answer(trial, m.refusal);
+    if (n.number != (uint64_t)trial->shape.graph.items || m.number != (uint64_t)trial->shape.graph.edges)
+        differ(trial, "there are %" PRIu64 " items and %" PRIu64 " edges", n.number, m.number);
+    free(items);
+    free(edges);
+}
+
+/* Slices too short, with nothing in them and nothing behind them. */
+static void try_short_bare(struct trial *trial, struct lengths lengths) {
+    struct slices slices = bare_slices(lengths);
+    for (int call = 0; call < CALLS; call++)
+        compare_answer(trial, (enum call)call, 0, (struct answer){11, 0}, runtime_call((enum call)call, slices, lengths, 0));
+    free_slices(slices);
+}
+
+void bare_group(struct trial *trial, struct lot *lot) {
+    put_drawn_plan(trial, lot);
+    struct slices slices = bare_slices(least);
+    read_bare(trial, lot, slices);
+    graph_bare(trial, slices);
+    play_bare(trial, lot, slices);
+    free_slices(slices);
+    try_short_bare(trial, (struct lengths){PLAN_WORDS - 1, COUNTS, VALUES});
+    try_short_bare(trial, (struct lengths){PLAN_WORDS, COUNTS - 1, VALUES});
+    try_short_bare(trial, (struct lengths){PLAN_WORDS, COUNTS, VALUES - 1});
+    try_short_bare(trial, (struct lengths){0, 0, 0});
+}

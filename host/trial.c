@@ -1,0 +1,167 @@
+#include "trial.h"
+
+#include <inttypes.h>
+#include <stdarg.h>
+#include <stdio.h>
+#include <stdlib.h>
+#include <string.h>
+
+#include "../include/taskiter.h"
+
+_Static_assert(PLAN_WORDS == TASKITER_PLAN_WORDS && COUNTS == TASKITER_COUNTS && VALUES == TASKITER_VALUES, "sizes of docs/LAYOUT.md");
+_Static_assert(ITEM_ROOM == TASKITER_MAX_ITEMS && EDGE_ROOM == TASKITER_EDGE_NUMBERS, "sizes of docs/LAYOUT.md");
+
+const struct lengths least = {PLAN_WORDS, COUNTS, VALUES};
+
+static const char *const call_names[CALLS] = {"open", "start", "finish", "result"};
+
+void differ(const struct trial *trial, const char *form, ...) {
+    va_list rest;
+    printf("%s: differs at seed %" PRIu64 ", plan %ld, call %ld: ", trial->group, trial->seed, trial->number, trial->calls);
+    va_start(rest, form);
+    vprintf(form, rest);
+    va_end(rest);
+    printf("\n");
+    exit(1);
+}
+
+void count_answer(struct trial *trial, uint64_t refusal) {
+    trial->calls++;
+    if (refusal > LAST_REFUSAL)
+        differ(trial, "there is no refusal %" PRIu64, refusal);
+    trial->answered[refusal]++;
+}
+
+void fill_memory(struct trial *trial, struct lot *lot) {
+    uint64_t *word = (uint64_t *)&trial->lent;
+    _Static_assert(sizeof trial->lent % sizeof *word == 0, "no word is left over");
+    for (size_t k = 0; k < sizeof trial->lent / sizeof *word; k++)
+        word[k] = draw(lot);
+    trial->expected = trial->lent;
+}
+
+void put_plan(struct trial *trial, const struct plan *plan) {
+    plan_words(plan, trial->lent.plan);
+    memcpy(trial->expected.plan, trial->lent.plan, sizeof trial->lent.plan);
+    make_shape(trial->lent.plan, &trial->shape);
+}
+
+void put_word(struct trial *trial, int word, uint64_t value) {
+    trial->lent.plan[word] = trial->expected.plan[word] = value;
+    make_shape(trial->lent.plan, &trial->shape);
+}
+
+/* Compares two stretches of memory and tells the first byte that differs. */
+static void compare_bytes(const struct trial *trial, const char *what, const void *expected, const void *got, size_t length) {
+    const uint8_t *e = expected, *g = got;
+    if (memcmp(e, g, length) == 0)
+        return;
+    size_t k = 0;
+    while (e[k] == g[k])
+        k++;
+    differ(trial, "byte %zu of %s is %d, expected %d", k, what, g[k], e[k]);
+}
+
+static void compare_memory(const struct trial *trial, const char *call) {
+    char what[64];
+    snprintf(what, sizeof what, "the memory after %s", call);
+    compare_bytes(trial, what, &trial->expected, &trial->lent, sizeof trial->lent);
+}
+
+struct answer runtime_call(enum call call, struct slices s, struct lengths l, uint64_t number) {
+    taskiter_answer answer = {0, 0};
+    switch (call) {
+    case START_CALL:
+        answer = taskiter_start(s.plan, l.plan, s.counts, l.counts, s.values, l.values, number);
+        break;
+    case FINISH_CALL:
+        answer = taskiter_finish(s.plan, l.plan, s.counts, l.counts, s.values, l.values, number);
+        break;
+    case RESULT_CALL:
+        answer = taskiter_result(s.plan, l.plan, s.counts, l.counts, s.values, l.values, number);
+        break;
+    default:
+        answer.refusal = taskiter_open(s.plan, l.plan, s.counts, l.counts, s.values, l.values);
+    }
+    return (struct answer){answer.refusal, answer.word};
+}
+
+void compare_answer(struct trial *trial, enum call call, uint64_t number, struct answer expected, struct answer got) {
+    count_answer(trial, expected.refusal);
+    if (got.refusal != expected.refusal || got.word != expected.word)
+        differ(trial, "%s %" PRIu64 " answers refusal %" PRIu64 ", word %" PRIu64 ", expected %" PRIu64 " and %" PRIu64, call_names[call], number,
+               got.refusal, got.word, expected.refusal, expected.word);
+}
+
+struct answer try_call(struct trial *trial, enum call call, struct lengths lengths, uint64_t number) {
+    struct slices slices = {trial->lent.plan, trial->lent.counts, trial->lent.values};
+    struct answer expected = model_call(call, &trial->shape, &trial->expected, lengths, number);
+    struct answer got = runtime_call(call, slices, lengths, number);
+    compare_answer(trial, call, number, expected, got);
+    compare_memory(trial, call_names[call]);
+    return expected;
+}
+
+struct reading try_read(struct trial *trial, const uint8_t *text, size_t length, size_t plan_length) {
+    static struct plan plan;
+    static uint8_t kept[2 * TEXT_ROOM];
+    memcpy(kept, text, length);
+    struct reading expected = plan_length < PLAN_WORDS ? (struct reading){11, 0} : read_text(text, length, &plan);
+    if (expected.refusal == 0)
+        plan_words(&plan, trial->expected.plan);
+    else if (expected.refusal != 11)
+        memset(trial->expected.plan, 0, sizeof trial->expected.plan);
+    taskiter_reading got = taskiter_read(text, length, trial->lent.plan, plan_length);
+    count_answer(trial, (uint64_t)expected.refusal);
+    if (got.refusal != (uint64_t)expected.refusal || got.line != (uint64_t)expected.line)
+        differ(trial, "reading answers refusal %" PRIu64 ", line %" PRIu64 ", expected %d and %d", got.refusal, got.line, expected.refusal,
+               expected.line);
+    compare_memory(trial, "reading");
+    compare_bytes(trial, "the text", kept, text, length);
+    if (expected.refusal == 0)
+        make_shape(trial->lent.plan, &trial->shape);
+    return expected;
+}
+
+static void compare_number(struct trial *trial, const char *call, uint64_t refusal, uint64_t number, taskiter_number got) {
+    count_answer(trial, refusal);
+    if (got.refusal != refusal || got.number != number)
+        differ(trial, "%s answer refusal %" PRIu64 ", number %" PRIu64 ", expected %" PRIu64 " and %" PRIu64, call, got.refusal, got.number,
+               refusal, number);
+    compare_memory(trial, call);
+}
+
+static uint64_t graph_refusal(const struct trial *trial, size_t plan_length, size_t length, size_t room) {
+    return plan_length < PLAN_WORDS || length < room ? 11 : trial->shape.formed ? 0 : 12;
+}
+
+void try_items(struct trial *trial, size_t plan_length, size_t items_length) {
+    static uint16_t lent[GUARD + ITEM_ROOM + GUARD], expected[GUARD + ITEM_ROOM + GUARD];
+    const struct graph *graph = &trial->shape.graph;
+    uint64_t refusal = graph_refusal(trial, plan_length, items_length, ITEM_ROOM);
+    memset(lent, (int)trial->calls, sizeof lent);
+    memcpy(expected, lent, sizeof lent);
+    for (int a = 0; refusal == 0 && a < graph->items; a++) {
+        const struct item *item = &graph->item[a];
+        expected[GUARD + a] = (uint16_t)(item->rank * 512 + (int)item->kind * 128 + (item->kind == TASK ? item->task : item->region));
+    }
+    taskiter_number got = taskiter_items(trial->lent.plan, plan_length, lent + GUARD, items_length);
+    compare_number(trial, "items", refusal, refusal == 0 ? (uint64_t)graph->items : 0, got);
+    compare_bytes(trial, "the items", expected, lent, sizeof lent);
+}
+
+void try_edges(struct trial *trial, size_t plan_length, size_t edges_length) {
+    static uint32_t lent[GUARD + EDGE_ROOM + GUARD], expected[GUARD + EDGE_ROOM + GUARD];
+    const struct graph *graph = &trial->shape.graph;
+    uint64_t refusal = graph_refusal(trial, plan_length, edges_length, EDGE_ROOM);
+    memset(lent, (int)trial->calls, sizeof lent);
+    memcpy(expected, lent, sizeof lent);
+    for (int e = 0; refusal == 0 && e < graph->edges; e++) {
+        expected[GUARD + 3 * e] = (uint32_t)graph->edge[e].from;
+        expected[GUARD + 3 * e + 1] = (uint32_t)graph->edge[e].to;
+        expected[GUARD + 3 * e + 2] = (uint32_t)graph->edge[e].distance;
+    }
+    taskiter_number got = taskiter_edges(trial->lent.plan, plan_length, lent + GUARD, edges_length);
+    compare_number(trial, "edges", refusal, refusal == 0 ? (uint64_t)graph->edges : 0, got);
+    compare_bytes(trial, "the edges", expected, lent, sizeof lent);
+}
