@@ -1,11 +1,18 @@
 // Reads a plan from standard input, runs it to its end and prints its items, its edges, the number of steps, and the value of each region; of a
 // refused text the refusal and the line. Output that is closed ends the program.
+mod input;
 mod lines;
 
+use graph::EDGE_WORDS;
+use graph::MAX_ITEMS;
+use input::read_text;
 use lines::put;
 use lines::put_end;
 use lines::put_field;
 use lines::write;
+use plan::limits::PLAN_WORDS;
+use taskiter::COUNTS;
+use taskiter::VALUES;
 
 // Longer than the lines of any plan: 640 items of at most 20 bytes, 4,224 edges of 15, one line of steps, and 128 values of 31.
 const ROOM: usize = 98304;
@@ -111,8 +118,8 @@ fn put_values(
 
 // The items and edges of a plan; answers whether they could be written.
 fn print_graph(out: &mut [u8], plan: &[u64]) -> bool {
-    let mut table = [0u16; 640];
-    let mut list = [0u32; 12672];
+    let mut table = [0u16; MAX_ITEMS];
+    let mut list = [0u32; EDGE_WORDS];
     let items = taskiter::taskiter_items(plan, &mut table);
     let edges = taskiter::taskiter_edges(plan, &mut list);
     let to = put_items(out, 0, &table, items.number);
@@ -122,8 +129,8 @@ fn print_graph(out: &mut [u8], plan: &[u64]) -> bool {
 
 // The steps and values of a plan, which is run to its end.
 fn print_run(out: &mut [u8], plan: &[u64], regions: u64) {
-    let mut counts = [0u32; 1280];
-    let mut values = [0u64; 3328];
+    let mut counts = [0u32; COUNTS];
+    let mut values = [0u64; VALUES];
     let ran = taskiter::run(plan, &mut counts, &mut values);
     let head = put(out, 0, b"steps");
     let steps = put_field(out, head, ran.number);
@@ -141,7 +148,7 @@ fn print_refusal(out: &mut [u8], refusal: u64, line: u64) {
 }
 
 fn run_text(out: &mut [u8], text: &[u8]) {
-    let mut plan = [0u64; 1668];
+    let mut plan = [0u64; PLAN_WORDS];
     let answer = taskiter::taskiter_read(text, &mut plan);
     if answer.refusal != 0 {
         print_refusal(out, answer.refusal, answer.line);
@@ -157,6 +164,11 @@ fn main() {
     // longer than a text may be, so that of a longer input enough is read to see it
     let mut text = io::large_buffer();
     let mut out = [0u8; ROOM];
-    let n = io::read_full(libc::STDIN_FILENO, &mut text);
+    let got = read_text(&mut text);
+    let n = got.bytes;
+    if !got.whole {
+        io::write_all(libc::STDERR_FILENO, b"run: standard input cannot be read\n");
+        return;
+    }
     run_text(&mut out, &text[..n]);
 }
