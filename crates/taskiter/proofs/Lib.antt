@@ -16,3 +16,4 @@ pub mod Chaining
 pub mod Turning
 pub mod Drawing
 pub mod Ending
+pub mod TextRuns

@@ -69,7 +69,8 @@ pub(crate) fn find_lowest(edges: &[u32], m: usize, lowest: &mut [u16])
     }
 }
 
-// Whether an item that has finished `done` passes meets the wait of another before a pass: one more is enough only if it stands before.
+// Whether an item that has finished `done` passes meets the wait of another before a pass: that pass too must be among them if it stands before
+// the other.
 fn is_met(done: u32, pass: u32, before: bool) -> bool
     ensures { λ r. ⌜ r ≡ cond before (ltb pass done) (leb pass done) ⌝ }
 {
