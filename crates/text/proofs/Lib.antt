@@ -3,4 +3,5 @@ pub mod NumberLaws
 pub mod WordLaws
 pub mod SplitLaws
 pub mod LineLaws
+pub mod Walking
 pub mod Examples

@@ -392,7 +392,7 @@ pub fn record_of(line: &[u8]) -> Record
 }
 
 // What the line that starts at `at` says, and where the next one starts. Unended where no line feed follows, and beyond the end.
-pub fn record_at(s: &[u8], at: usize) -> RecordAt
+fn line_at(s: &[u8], at: usize) -> RecordAt
     ensures { λ r. ⌜ r ≡ recordAt (now (s .entry)) at ⌝ }
 {
     let t = behind(s, at);
@@ -404,4 +404,43 @@ pub fn record_at(s: &[u8], at: usize) -> RecordAt
         record: record_of(&t[..n]),
         next: at + n + 1,
     }
+}
+
+// The line reader: it keeps the lent text and the offset of the next line. What is not thin here is `line_at`'s.
+struct LineReader<'a> {
+    text: &'a [u8],
+    at: usize,
+}
+
+impl<'a> LineReader<'a> {
+    // The reader of a text, at its first line.
+    fn new(text: &'a [u8]) -> LineReader<'a>
+        ensures { λ r. ⌜ (r .text ≡ text .entry) × (r .at ≡ 0) ⌝ }
+    {
+        LineReader { text, at: 0 }
+    }
+
+    // The reader of the same text at another line, as the one after a line that was read.
+    fn moved(self, at: usize) -> LineReader<'a>
+        ensures { λ r. ⌜ (r .text ≡ self .entry .text) × (r .at ≡ at) ⌝ }
+    {
+        LineReader {
+            text: self.text,
+            at,
+        }
+    }
+
+    // What the next line says, with the offset of the line after it.
+    fn next(self) -> RecordAt
+        ensures { λ r. ⌜ r ≡ recordAt (now (self .entry .text)) (self .entry .at) ⌝ }
+    {
+        line_at(self.text, self.at)
+    }
+}
+
+// What a reader of the text says at the line that starts at `at`: for callers that keep text and offset themselves.
+pub fn record_at(s: &[u8], at: usize) -> RecordAt
+    ensures { λ r. ⌜ r ≡ recordAt (now (s .entry)) at ⌝ }
+{
+    LineReader::new(s).moved(at).next()
 }
