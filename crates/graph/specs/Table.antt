@@ -1,5 +1,5 @@
--- The item table: a number for each item, its rank, kind, and task or region. It serves the crates above and the contracts of private
--- functions: nothing that a reader of the demands must believe.
+-- The item table: a number for each item, its rank, kind, and task or region. `codeOf` and `tableOf` are what `items` answers (Answers); `Graph`
+-- serves the contracts of private functions.
 use Prim.Native.Nat.{ℕ, _+_, _*_, _≤_, _<_}
 use mathlib.Core.Path.{_≡_}
 use mathlib.Core.Bool.{true}
