@@ -1,26 +1,31 @@
 /* taskiter: a proved runtime for iterative task loops.
 
-   A plan text gives one loop body as tasks on ranks, with the regions that they read and write. The runtime draws the cyclic graph of the
-   taskiter rule from it and adds a send and a receive for each word that another rank reads. These, with the tasks, are the items. The host
-   calls taskiter_read once, taskiter_open once for each run, and then taskiter_start and taskiter_finish in whatever order it likes, pass after
-   pass, until every item has finished every pass; then taskiter_result gives each region's number. Whatever the order of the calls, every
-   word answered is the one of the loop unrolled and run in order.
+   A plan text gives one loop body as tasks on ranks, with the regions that they read and write; a region is one 64-bit word. The runtime adds a
+   send and a receive for each word that another rank reads. These, with the tasks, are the items. It draws the cyclic graph of the taskiter rule:
+   which item waits for which, within a pass of the loop and from one pass to the next. The host calls taskiter_read once for each plan,
+   taskiter_open once for each run, and then taskiter_start and taskiter_finish in whatever order it likes, pass after pass, until every item has
+   finished every pass; then taskiter_result gives each region's number. Whatever the order of the calls, every word answered is the one of the
+   loop unrolled and run in order.
 
-   All memory is the host's. A call keeps nothing between calls and allocates nothing.
+   The runtime computes: a start computes the word by the task's kernel, a finish writes it. The host chooses the order. Each rank has a copy of
+   each region, each transfer a slot between its send and its receive, and each item a word that it holds; copies and slots are the places that
+   items read and write. All of them lie in the lent values. Real threads and messages are the host's.
+
+   All memory is the host's. The runtime keeps nothing between calls and allocates nothing.
 
    Duties of the host, for every call:
      - each slice is as long as the call says, in elements, aligned for its type, and not NULL, even where its length is 0;
      - the slices of one call do not overlap;
-     - calls come one after another.
+     - calls come one after another (docs/HOST.md says more of threads).
    With these kept every call ends and does nothing undefined, whatever the slices hold. For the words to be those of the unrolled loop, besides:
      - from an accepted opening of the plan on, plan and state come to a call as the call before left them.
-   A plan that reading left for no text, and counts that no state has, are refused with 12. No call can tell whether a plan or a state that passes
-   this test is the one that the host means.
+   Words that reading leaves for no text, and counts out of form (docs/LAYOUT.md), are refused with 12. A state that was never opened, or belongs to
+   another plan, may pass this test, as one of zeros does.
 
-   An answer carries a refusal number. 0 says that the call is accepted, and only then is the word to be used. A refused call changes nothing
-   but that taskiter_read, where it refuses a text, leaves zeros in the plan. The numbers:
+   An answer carries a refusal number. 0 says that the call is accepted, and only then is the word to be used. A refused call changes nothing, with
+   one exception: where taskiter_read refuses a text for 1 to 10, the plan becomes zeros. The numbers:
 
-      1  a line not in form                           11  a slice too short
+      1  a line not in form, or without its line feed 11  a slice too short
       2  no `loop` first, or a record out of place    12  the plan is not one that reading leaves, or the counts of
       3  a number out of its limits                       an item are out of form
       4  `begin` while a task is open                 13  item or region number too large
@@ -42,12 +47,15 @@
 extern "C" {
 #endif
 
+/* A text has at most so many bytes. It has no NUL at its end: one that is counted is a line not in form. */
+#define TASKITER_MAX_BYTES 32768
+
 /* The least lengths of the lent slices, in elements: the same for all plans. What lies behind them is neither read nor changed. */
 #define TASKITER_PLAN_WORDS 1668 /* uint64_t: 13,344 bytes */
 #define TASKITER_COUNTS 1280     /* TASKITER_COUNT_TYPE: 5,120 bytes */
 #define TASKITER_VALUES 3328     /* uint64_t: 26,624 bytes */
 
-/* The type of a count of passes. */
+/* The type of a count of passes. Hosts use this name. */
 #define TASKITER_COUNT_TYPE uint32_t
 
 /* No plan has more items than this: their numbers lie below it. */
@@ -56,8 +64,8 @@ extern "C" {
 /* The least length of a slice for the edges, three numbers each: no plan has more than 4,224. 50,688 bytes. */
 #define TASKITER_EDGE_NUMBERS 12672
 
-/* Refusal 0: the text is accepted, and line is 0. Else the refusal (1 to 11) and the line that it is for: the first line is 1; after the last
-   line it is one past it; 0 where no line was looked at (a text too long, a slice too short). */
+/* Refusal 0: the text is accepted, and line is 0. Else the refusal (1 to 11) and the line that it is for: the first line is 1; a refusal at the end
+   of the text is for one line past the last; 0 where no line was looked at (a text too long, a slice too short). */
 typedef struct {
     uint64_t refusal;
     uint64_t line;
@@ -69,15 +77,16 @@ typedef struct {
     uint64_t word;
 } taskiter_answer;
 
-/* Reads a text of at most 32,768 bytes into the plan.
+/* Reads a text into the plan.
    Accepted: the first TASKITER_PLAN_WORDS words of the plan are written. Refused for 1 to 10: they are zeros. Refused for 11, when the plan is
    too short: nothing is changed. */
 taskiter_reading taskiter_read(const uint8_t *text, size_t text_length, uint64_t *plan, size_t plan_length);
 
 /* The items of the plan and the edges between them, for a host that wants to know what a step is, where it belongs and what it may free.
 
-   taskiter_items puts a number for each item into a slice of at least TASKITER_MAX_ITEMS: rank * 512 + kind * 128 + task (kind 0, a task) or
-   region (kind 1, a send; kind 2, a receive), and answers how many items there are. A send and its receive stand one after the other.
+   taskiter_items puts a number n for each item into a slice of at least TASKITER_MAX_ITEMS, and answers how many items there are. The item's rank is
+   n / 512, its kind n / 128 % 4: 0 a task, 1 a send, 2 a receive. n % 128 is the task's number, or the region that is sent. Items are numbered from
+   0: each task, then its sends, each with its receive right behind it.
    taskiter_edges puts from, to and distance of each edge into a slice of at least TASKITER_EDGE_NUMBERS, in that order, and answers how many
    edges there are. An item waits for the source of each edge into it: at distance 0 in the same pass, at distance 1 in the pass before.
    What lies behind the last number is left as it is. Refused for 11 or 12, with number 0 and nothing changed. */
@@ -90,11 +99,11 @@ taskiter_number taskiter_items(const uint64_t *plan, size_t plan_length, uint16_
 taskiter_number taskiter_edges(const uint64_t *plan, size_t plan_length, uint32_t *edges, size_t edges_length);
 
 /* Opens a state for the plan: every copy gets its starting value, and counts, slots and held words become 0. What the plan does not use of the
-   state is left as it is. Answers the refusal, 11 or 12 (the plan alone), or 0. */
+   state is left as it is. Answers the refusal, 11 or 12 (of the plan alone), or 0. A state may be opened again at any time. */
 uint64_t taskiter_open(const uint64_t *plan, size_t plan_length, TASKITER_COUNT_TYPE *counts, size_t counts_length, uint64_t *values, size_t values_length);
 
-/* Starts the next pass of an item: it reads its places, and answers the word that it computes, which it holds until it finishes. A send or
-   receive answers the word that it carries. Refused for 11 to 16. After 16 the same start is accepted once others have finished. */
+/* Starts the next pass of an item: it reads its places, and answers the word that it computes, which it holds for the finish. A send or
+   receive answers the word that it carries. Refused for 11 to 16. After 16 the same start is accepted once those that it waits for have finished. */
 taskiter_answer taskiter_start(const uint64_t *plan, size_t plan_length, TASKITER_COUNT_TYPE *counts, size_t counts_length, uint64_t *values, size_t values_length,
                                uint64_t item);
 
@@ -103,7 +112,8 @@ taskiter_answer taskiter_start(const uint64_t *plan, size_t plan_length, TASKITE
 taskiter_answer taskiter_finish(const uint64_t *plan, size_t plan_length, TASKITER_COUNT_TYPE *counts, size_t counts_length, uint64_t *values, size_t values_length,
                                 uint64_t item);
 
-/* The result of a region, once every item has finished every pass. Refused for 11, 12, 13 or 18. */
+/* The result of a region, once every item has finished every pass; of a region that no task writes, its starting value. Refused for 11, 12, 13
+   or 18. */
 taskiter_answer taskiter_result(const uint64_t *plan, size_t plan_length, const TASKITER_COUNT_TYPE *counts, size_t counts_length, const uint64_t *values,
                                 size_t values_length, uint64_t region);
 
