@@ -1,5 +1,5 @@
 /* first FILE: a whole host to start from. It reads a plan, runs it to its end by trying every start and every finish in turn, and prints each
-   region's number. Exit status 0, 1 where the text is refused, 2 where there is none. */
+   region's number. Exit status 0, 1 where the text is refused, 2 where it cannot be read. */
 #include <inttypes.h>
 #include <stdio.h>
 
@@ -27,6 +27,10 @@ int main(int argc, char **argv) {
         return 2;
     }
     size_t length = fread(text, 1, sizeof text, file);
+    if (ferror(file)) {
+        fprintf(stderr, "first: cannot read %s\n", argv[1]);
+        return 2;
+    }
     fclose(file);
 
     taskiter_reading reading = taskiter_read(text, length, plan, TASKITER_PLAN_WORDS);
@@ -47,7 +51,8 @@ int main(int argc, char **argv) {
     }
     for (uint64_t region = 0; region < regions; region++) {
         taskiter_answer answer = taskiter_result(plan, TASKITER_PLAN_WORDS, counts, TASKITER_COUNTS, values, TASKITER_VALUES, region);
-        printf("value %" PRIu64 " %" PRIu64 "\n", region, answer.word);
+        if (answer.refusal == 0)
+            printf("value %" PRIu64 " %" PRIu64 "\n", region, answer.word);
     }
     return 0;
 }

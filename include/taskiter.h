@@ -25,15 +25,15 @@
    An answer carries a refusal number. 0 says that the call is accepted, and only then is the word to be used. A refused call changes nothing, with
    one exception: where taskiter_read refuses a text for 1 to 10, the plan becomes zeros. The numbers:
 
-      1  a line not in form, or without its line feed 11  a slice too short
-      2  no `loop` first, or a record out of place    12  the plan is not one that reading leaves, or the counts of
-      3  a number out of its limits                       an item are out of form
-      4  `begin` while a task is open                 13  item or region number too large
-      5  an access or `end` with no task open         14  start: no pass left to finish
-      6  a region named twice                         15  start: the item is running
-      7  the text ends with a task open               16  start: something it waits for has not finished
-      8  the text ends with no task                   17  finish: the item is not running
-      9  wrong number of reads for the kernel         18  result: the loop is not complete
+      1  a line not in form, or without its line feed   11  a slice too short
+      2  no `loop` first, or a record out of place      12  the plan is not one that reading leaves, or the counts of
+      3  a number out of its limits                         an item are out of form
+      4  `begin` while a task is open                   13  item or region number too large
+      5  an access or `end` with no task open           14  start: no pass left to finish
+      6  a region named twice                           15  start: the item is running
+      7  the text ends with a task open                 16  start: something it waits for has not finished
+      8  the text ends with no task                     17  finish: the item is not running
+      9  wrong number of reads for the kernel           18  result: the loop is not complete
      10  too long, too many tasks, accesses or transfers
 
    docs/HOST.md says what a host does about each, docs/LAYOUT.md what stands where in the slices. */

@@ -406,7 +406,8 @@ fn line_at(s: &[u8], at: usize) -> RecordAt
     }
 }
 
-// The line reader: it keeps the lent text and the offset of the next line. What is not thin here is `line_at`'s.
+// The line reader: it keeps the lent text and the offset of the next line. Its methods put it together and take it apart; `line_at` does the
+// work.
 struct LineReader<'a> {
     text: &'a [u8],
     at: usize,
@@ -420,7 +421,7 @@ impl<'a> LineReader<'a> {
         LineReader { text, at: 0 }
     }
 
-    // The reader of the same text at another line, as the one after a line that was read.
+    // The reader of the same text at another offset, as the one that a record comes with.
     fn moved(self, at: usize) -> LineReader<'a>
         ensures { λ r. ⌜ (r .text ≡ self .entry .text) × (r .at ≡ at) ⌝ }
     {
