@@ -1,4 +1,4 @@
-/* Numbers and plans by lot. A seed gives the same ones everywhere. */
+/* Random numbers and plans. A seed gives the same ones in every run of one build. */
 #ifndef HOST_DRAW_H
 #define HOST_DRAW_H
 
@@ -8,35 +8,37 @@
 
 enum { TEXT_ROOM = 40000 };
 
-struct lot {
+struct rng {
     uint64_t state;
 };
 
-/* SMALL plans are played to their end many times over; of the others, LARGEST is the greatest there is: 128 tasks and 256 transfers, 640 items. */
-enum size { SMALL, MIDDLE, LARGE, LARGEST, SIZES };
+/* SMALL plans are played to their end many times over. LARGEST and RING have as many items as a
+   plan can have: 128 tasks and 256 transfers, 640 items. In a RING every word that is sent is read
+   in the next pass. */
+enum size { SMALL, MIDDLE, LARGE, LARGEST, RING, SIZES };
 
-/* The lot of a number under a seed. */
-struct lot lot_of(uint64_t seed, uint64_t number);
+/* The random numbers that belong to a number under a seed. */
+struct rng rng_of(uint64_t seed, uint64_t number);
 
 /* Any word, all alike. */
-uint64_t draw(struct lot *lot);
+uint64_t draw(struct rng *rng);
 
 /* A number below n, which is not 0. */
-int draw_below(struct lot *lot, int n);
+int draw_below(struct rng *rng, int n);
 
 /* Any word, the least and the greatest more often than others. */
-uint64_t draw_word(struct lot *lot);
+uint64_t draw_word(struct rng *rng);
 
 /* A plan of some size within every limit but that of transfers. */
-void draw_body(struct lot *lot, enum size size, struct plan *plan);
+void draw_body(struct rng *rng, enum size size, struct plan *plan);
 
 /* Drops reads until there are at most 256 transfers: exactly 256 where there were more. */
-void drop_reads(struct lot *lot, struct plan *plan);
+void drop_reads(struct rng *rng, struct plan *plan);
 
 /* A plan within every limit. */
-void draw_plan(struct lot *lot, enum size size, struct plan *plan);
+void draw_plan(struct rng *rng, enum size size, struct plan *plan);
 
 /* A text of the plan, with its `start` lines in any order, and answers its length. */
-int draw_text(struct lot *lot, const struct plan *plan, char *text);
+int draw_text(struct rng *rng, const struct plan *plan, char *text);
 
 #endif

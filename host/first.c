@@ -1,5 +1,6 @@
-/* first FILE: a whole host to start from. It reads a plan, runs it to its end by trying every start and every finish in turn, and prints each
-   region's number. Exit status 0, 1 where the text is refused, 2 where it cannot be read. */
+/* first FILE: a whole host to start from. It reads a plan, runs it to its end by trying every start
+   and every finish in turn, and prints each region's number. Exit status 0, 1 where the text is
+   refused, 2 where it cannot be read. */
 #include <inttypes.h>
 #include <stdio.h>
 
@@ -13,11 +14,15 @@ static uint16_t items[TASKITER_MAX_ITEMS];
 
 /* Tries a start, and a finish: 1 where it is accepted, else 0. */
 static uint64_t start(uint64_t item) {
-    return taskiter_start(plan, TASKITER_PLAN_WORDS, counts, TASKITER_COUNTS, values, TASKITER_VALUES, item).refusal == 0;
+    taskiter_answer answer = taskiter_start(plan, TASKITER_PLAN_WORDS, counts, TASKITER_COUNTS,
+                                            values, TASKITER_VALUES, item);
+    return answer.refusal == 0;
 }
 
 static uint64_t finish(uint64_t item) {
-    return taskiter_finish(plan, TASKITER_PLAN_WORDS, counts, TASKITER_COUNTS, values, TASKITER_VALUES, item).refusal == 0;
+    taskiter_answer answer = taskiter_finish(plan, TASKITER_PLAN_WORDS, counts, TASKITER_COUNTS,
+                                             values, TASKITER_VALUES, item);
+    return answer.refusal == 0;
 }
 
 int main(int argc, char **argv) {
@@ -50,7 +55,8 @@ int main(int argc, char **argv) {
         }
     }
     for (uint64_t region = 0; region < regions; region++) {
-        taskiter_answer answer = taskiter_result(plan, TASKITER_PLAN_WORDS, counts, TASKITER_COUNTS, values, TASKITER_VALUES, region);
+        taskiter_answer answer = taskiter_result(plan, TASKITER_PLAN_WORDS, counts, TASKITER_COUNTS,
+                                                 values, TASKITER_VALUES, region);
         if (answer.refusal == 0)
             printf("value %" PRIu64 " %" PRIu64 "\n", region, answer.word);
     }

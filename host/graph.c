@@ -18,10 +18,12 @@ static void add_task(const struct plan *plan, struct graph *graph, int i) {
     const struct task *task = &plan->task[i];
     struct item *item = add_item(graph, TASK, task->rank, i, -1);
     for (int a = 0; a < task->accesses; a++)
-        add_touch(item, task->rank * plan->regions + task->access[a].region, reads(task->access[a]), writes(task->access[a]));
+        add_touch(item, task->rank * plan->regions + task->access[a].region, reads(task->access[a]),
+                  writes(task->access[a]));
 }
 
-static void add_transfer(const struct plan *plan, struct graph *graph, int i, int region, int rank) {
+static void add_transfer(const struct plan *plan, struct graph *graph, int i, int region,
+                         int rank) {
     int from = plan->task[i].rank, slot = FIRST_SLOT + graph->items;
     struct item *send = add_item(graph, SEND, from, i, region);
     add_touch(send, from * plan->regions + region, true, false);
@@ -67,7 +69,8 @@ static struct users *find_users(const struct graph *graph) {
     return users;
 }
 
-/* Marks the edges that one place makes: from each user in pass 0 to those after it, as far as the first writer, where one of the two writes. */
+/* Marks the edges that one place makes: from each user in pass 0 to those after it, as far as the
+   first writer, where one of the two writes. */
 static void mark_place(const struct users *users, uint8_t marks[MAX_ITEMS][MAX_ITEMS]) {
     for (int x = 0; x < users->count; x++)
         for (int y = x + 1; y < 3 * users->count; y++) {
@@ -81,7 +84,9 @@ static void mark_place(const struct users *users, uint8_t marks[MAX_ITEMS][MAX_I
 
 static void add_edge(struct graph *graph, int from, int to, int distance) {
     if (distance > 1 || graph->edges == MAX_EDGES) {
-        printf("the rule puts more edges than the paper and docs/LAYOUT.md say: item %d to %d, distance %d\n", from, to, distance);
+        printf("the rule puts more edges than the paper and docs/LAYOUT.md say: item %d to %d, "
+               "distance %d\n",
+               from, to, distance);
         exit(1);
     }
     graph->edge[graph->edges++] = (struct edge){from, to, distance};
@@ -147,8 +152,10 @@ bool rule_holds(const struct graph *graph, int a, int b, int distance) {
     if (later <= a)
         return false;
     for (int t = 0; t < graph->item[a].touches; t++) {
-        const struct touch *one = &graph->item[a].touch[t], *other = touch_of(&graph->item[b], one->place);
-        if (other != NULL && (one->written || other->written) && !written_between(graph, one->place, a, later))
+        const struct touch *one = &graph->item[a].touch[t],
+                           *other = touch_of(&graph->item[b], one->place);
+        if (other != NULL && (one->written || other->written) &&
+            !written_between(graph, one->place, a, later))
             return true;
     }
     return false;

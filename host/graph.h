@@ -1,4 +1,5 @@
-/* The items and edges of a plan by the paper's rule, tried on places over the unrolled item list. It uses nothing of the runtime. */
+/* The items and edges of a plan by the paper's rule, tried on places over the unrolled item list.
+   It uses nothing of the runtime. */
 #ifndef HOST_GRAPH_H
 #define HOST_GRAPH_H
 
@@ -6,11 +7,18 @@
 
 #include "plan.h"
 
-enum { MAX_ITEMS = 640, MAX_EDGES = 4224, MAX_PLACES = MAX_ACCESSES + 2, FIRST_SLOT = 2048, PLACES = FIRST_SLOT + MAX_ITEMS };
+enum {
+    MAX_ITEMS = 640,
+    MAX_EDGES = 4224,
+    MAX_PLACES = MAX_ACCESSES + 2,
+    FIRST_SLOT = 2048,
+    PLACES = FIRST_SLOT + MAX_ITEMS
+};
 
 enum kind { TASK, SEND, RECEIVE };
 
-/* A place that an item accesses: rank × regions + region for a copy, FIRST_SLOT + the number of the send for a slot. */
+/* A place that an item accesses: rank × regions + region for a copy, FIRST_SLOT + the number of the
+   send for a slot. */
 struct touch {
     int place;
     bool read, written;
@@ -27,7 +35,8 @@ struct edge {
     int from, to, distance;
 };
 
-/* Edges stand in the order from, to, distance. Those into item b are `into` from first_into[b] on, as far as first_into[b + 1]. */
+/* Edges stand in the order from, to, distance. Those into item b are `into` from first_into[b] on,
+   as far as first_into[b + 1]. */
 struct graph {
     int items, edges;
     struct item item[MAX_ITEMS];
@@ -35,11 +44,13 @@ struct graph {
     int first_into[MAX_ITEMS + 1];
 };
 
-/* Makes the graph of a plan within its limits. The edges of each place are found by walking from every access to the next writer. */
+/* Makes the graph of a plan within its limits. The edges of each place are found by walking from
+   every access to the next writer. */
 void make_graph(const struct plan *plan, struct graph *graph);
 
-/* Whether the rule puts an edge from a to b at the distance, tried as it is written: some place that both access and one writes, b after a, and
-   no item between that writes it; or an item and itself in the next pass. */
+/* Whether the rule puts an edge from a to b at the distance, tried as it is written: some place
+   that both access and one writes, b after a, and no item between that writes it; or an item and
+   itself in the next pass. */
 bool rule_holds(const struct graph *graph, int a, int b, int distance);
 
 #endif

@@ -1,40 +1,51 @@
-/* The groups of calls that stress makes, each with one plan by lot. A trial's number decides the size of its plan. */
+/* The groups of calls that stress makes, each with one random plan. A trial's number decides the
+   size of its plan. */
 #ifndef HOST_GROUPS_H
 #define HOST_GROUPS_H
 
 #include "trial.h"
 
+/* The cases that the paper lists without a star, which need no random plan. */
+void paper_group(struct trial *trial, struct rng *rng);
+
 /* Texts in order and damaged: refusal, line and plan are those of the paper's list. */
-void reading_group(struct trial *trial, struct lot *lot);
+void reading_group(struct trial *trial, struct rng *rng);
 
-/* Items and edges are those of the paper's rule. */
-void graph_group(struct trial *trial, struct lot *lot);
+/* Items and edges are those of the paper's rule, which is tried on every pair of instances. */
+void graph_group(struct trial *trial, struct rng *rng);
 
-/* A whole play in a random order, with calls between that may be refused: each word is the unrolled loop's. */
-void steps_group(struct trial *trial, struct lot *lot);
+/* A whole play in a random order, with calls between that may be refused: each word is the unrolled
+   loop's. */
+void steps_group(struct trial *trial, struct rng *rng);
 
 /* Plans and counts with one word changed, and states that belong to no loop. */
-void damage_group(struct trial *trial, struct lot *lot);
+void damage_group(struct trial *trial, struct rng *rng);
 
 /* Slices too short. */
-void short_group(struct trial *trial, struct lot *lot);
+void short_group(struct trial *trial, struct rng *rng);
 
-/* The same calls in blocks that end where the slices end and were never set, for a tool that watches what is read. Answers alone are compared. */
-void bare_group(struct trial *trial, struct lot *lot);
+/* The same calls in blocks that end where the slices end and were never set, for a tool that
+   watches what is read. Answers alone are compared. */
+void bare_group(struct trial *trial, struct rng *rng);
 
-/* The size of a group's plan: of 32, one is of the greatest size and two are large. */
+/* The size of a group's plan: of 32, two have as many items as there can be, and two are large. */
 enum size size_of(long number);
 
-/* A plan by lot in memory that is otherwise filled by lot. */
-void put_drawn_plan(struct trial *trial, struct lot *lot);
+/* A random plan in memory that is otherwise filled at random. */
+void put_drawn_plan(struct trial *trial, struct rng *rng);
 
 /* A number to ask for, where those below n are right: mostly one of them, else any. */
-uint64_t draw_asked(struct lot *lot, int n);
+uint64_t draw_asked(struct rng *rng, int n);
 
 /* Lengths that are long enough, now and then longer. */
-struct lengths draw_enough(struct lot *lot);
+struct lengths draw_enough(struct rng *rng);
 
-/* An item whose step is free: the lowest (pick 0), the highest (1) or one by lot; -1 if there is none. */
-int find_free(struct trial *trial, struct lot *lot, int pick, enum call call);
+/* An item whose step is free: the lowest (pick 0), the highest (1) or a random one; -1 if there is
+   none. */
+int find_free(struct trial *trial, struct rng *rng, int pick, enum call call);
+
+/* Every call once, with a count or a word of the plan changed or with slices that may be too short.
+   Leaves the memory as it was. */
+void try_damage(struct trial *trial, struct rng *rng);
 
 #endif

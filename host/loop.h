@@ -1,5 +1,5 @@
-/* The unrolled loop that runs are compared with: one cell a region, the tasks in body order, pass after pass. It knows neither ranks nor
-   transfers, and has kernels of its own. */
+/* The unrolled loop that runs are compared with: one cell a region, the tasks in body order, pass
+   after pass. It knows neither ranks nor transfers, and has kernels of its own. */
 #ifndef HOST_LOOP_H
 #define HOST_LOOP_H
 
@@ -7,7 +7,8 @@
 
 #include "plan.h"
 
-/* `passes` of the loop have been run: the cells are as they stand after them, and the words of each are kept. */
+/* `passes` of the loop have been run: the cells are as they stand after them, and the words of each
+   are kept. */
 struct loop {
     const struct plan *plan;
     int passes, room;

@@ -16,7 +16,8 @@ static uint32_t finished(const struct memory *memory, int item) {
     return memory->counts[MAX_ITEMS + item];
 }
 
-/* Whether every item's counts can stand: as many passes started as finished, or one more with a pass left. */
+/* Whether every item's counts can stand: as many passes started as finished, or one more with a
+   pass left. */
 static bool counts_formed(const struct shape *shape, const struct memory *memory) {
     uint64_t passes = (uint64_t)shape->plan.passes;
     for (int a = 0; a < shape->graph.items; a++) {
@@ -57,7 +58,8 @@ static uint64_t finish_refusal(const struct memory *memory, int item) {
 }
 
 bool is_free(enum call call, const struct shape *shape, const struct memory *memory, int item) {
-    return (call == START_CALL ? start_refusal(shape, memory, item) : finish_refusal(memory, item)) == 0;
+    return (call == START_CALL ? start_refusal(shape, memory, item)
+                               : finish_refusal(memory, item)) == 0;
 }
 
 static void open_state(const struct shape *shape, struct memory *memory) {
@@ -73,8 +75,10 @@ static void open_state(const struct shape *shape, struct memory *memory) {
     }
 }
 
-/* The word of an item: what a task computes from its reads, or the one that a send or receive reads. */
-static uint64_t item_word(const struct shape *shape, const struct memory *memory, const struct item *item) {
+/* The word of an item: what a task computes from its reads, or the one that a send or receive
+   reads. */
+static uint64_t item_word(const struct shape *shape, const struct memory *memory,
+                          const struct item *item) {
     uint64_t read[MAX_PLACES];
     int count = 0;
     for (int t = 0; t < item->touches; t++)
@@ -100,14 +104,17 @@ static uint64_t finish_item(const struct shape *shape, struct memory *memory, in
 
 static uint64_t region_word(const struct plan *plan, const struct memory *memory, int region) {
     int writer = last_writer(plan, region);
-    return writer < 0 || plan->passes == 0 ? plan->start[region] : memory->values[plan->task[writer].rank * plan->regions + region];
+    return writer < 0 || plan->passes == 0
+               ? plan->start[region]
+               : memory->values[plan->task[writer].rank * plan->regions + region];
 }
 
 static bool too_short(struct lengths lengths) {
     return lengths.plan < PLAN_WORDS || lengths.counts < COUNTS || lengths.values < VALUES;
 }
 
-static uint64_t refusal_of(enum call call, const struct shape *shape, const struct memory *memory, struct lengths lengths, uint64_t number) {
+static uint64_t refusal_of(enum call call, const struct shape *shape, const struct memory *memory,
+                           struct lengths lengths, uint64_t number) {
     if (too_short(lengths))
         return 11;
     if (!shape->formed || (call != OPEN_CALL && !counts_formed(shape, memory)))
@@ -123,7 +130,8 @@ static uint64_t refusal_of(enum call call, const struct shape *shape, const stru
     return complete(shape, memory) ? 0 : 18;
 }
 
-struct answer model_call(enum call call, const struct shape *shape, struct memory *memory, struct lengths lengths, uint64_t number) {
+struct answer model_call(enum call call, const struct shape *shape, struct memory *memory,
+                         struct lengths lengths, uint64_t number) {
     uint64_t refusal = refusal_of(call, shape, memory, lengths, number);
     if (refusal != 0)
         return (struct answer){refusal, 0};

@@ -1,5 +1,5 @@
-/* What a call of the runtime has to answer, and what it has to leave in the slices lent to it, straight from the paper. It uses nothing of the
-   runtime. */
+/* What a call of the runtime has to answer, and what it has to leave in the slices lent to it,
+   straight from the paper. It uses nothing of the runtime. */
 #ifndef HOST_MODEL_H
 #define HOST_MODEL_H
 
@@ -41,7 +41,8 @@ enum call { OPEN_CALL, START_CALL, FINISH_CALL, RESULT_CALL, CALLS };
 void make_shape(const uint64_t *words, struct shape *shape);
 
 /* Makes a call on the memory, whose plan has this shape. The number is the item's or region's. */
-struct answer model_call(enum call call, const struct shape *shape, struct memory *memory, struct lengths lengths, uint64_t number);
+struct answer model_call(enum call call, const struct shape *shape, struct memory *memory,
+                         struct lengths lengths, uint64_t number);
 
 /* Whether every item has finished every pass. */
 bool complete(const struct shape *shape, const struct memory *memory);

@@ -1,5 +1,6 @@
-/* Plays the paper's example on two ranks in three orders, and shows that the results are the same: the lowest step first; every start before any
-   finish, so that items run side by side; and steps drawn by lot. Exit status 0 if there are 4 items and 10 edges, and every order took 16 steps and
+/* Plays the paper's example on two ranks in three orders, and shows that the results are the same:
+   the lowest step first; every start before any finish, so that items run side by side; and steps
+   at random. Exit status 0 if there are 4 items and 10 edges, and every order took 16 steps and
    gave 7 and 13. */
 #include <inttypes.h>
 #include <stdbool.h>
@@ -31,8 +32,10 @@ static uint32_t edges[TASKITER_EDGE_NUMBERS];
 /* Step k of the 2 × ITEMS there are: the start of item k / 2, or its finish. */
 static taskiter_answer take(int k) {
     uint64_t item = (uint64_t)(k / 2);
-    return k % 2 == 0 ? taskiter_start(plan, TASKITER_PLAN_WORDS, counts, TASKITER_COUNTS, values, TASKITER_VALUES, item)
-                      : taskiter_finish(plan, TASKITER_PLAN_WORDS, counts, TASKITER_COUNTS, values, TASKITER_VALUES, item);
+    return k % 2 == 0 ? taskiter_start(plan, TASKITER_PLAN_WORDS, counts, TASKITER_COUNTS, values,
+                                       TASKITER_VALUES, item)
+                      : taskiter_finish(plan, TASKITER_PLAN_WORDS, counts, TASKITER_COUNTS, values,
+                                        TASKITER_VALUES, item);
 }
 
 static int lowest(int k) {
@@ -43,21 +46,23 @@ static int starts_first(int k) {
     return k < ITEMS ? 2 * (ITEMS - 1 - k) : 2 * (k - ITEMS) + 1;
 }
 
-static uint32_t lot = 1;
+static uint32_t rng = 1;
 
-static int by_lot(int k) {
+static int at_random(int k) {
     (void)k;
-    lot = lot * 1664525u + 1013904223u;
-    return (int)((lot >> 16) % (2 * ITEMS));
+    rng = rng * 1664525u + 1013904223u;
+    return (int)((rng >> 16) % (2 * ITEMS));
 }
 
 static taskiter_answer result(uint64_t region) {
-    return taskiter_result(plan, TASKITER_PLAN_WORDS, counts, TASKITER_COUNTS, values, TASKITER_VALUES, region);
+    return taskiter_result(plan, TASKITER_PLAN_WORDS, counts, TASKITER_COUNTS, values,
+                           TASKITER_VALUES, region);
 }
 
 /* Plays one order to the end: tries steps in turn until one is accepted, then begins anew. */
 static bool play(const char *name, int (*order)(int)) {
-    if (taskiter_open(plan, TASKITER_PLAN_WORDS, counts, TASKITER_COUNTS, values, TASKITER_VALUES) != 0)
+    if (taskiter_open(plan, TASKITER_PLAN_WORDS, counts, TASKITER_COUNTS, values,
+                      TASKITER_VALUES) != 0)
         return false;
     int steps = 0, refused = 0, k = 0;
     printf("%-8s", name);
@@ -95,11 +100,13 @@ static bool show_graph(void) {
 }
 
 int main(void) {
-    taskiter_reading reading = taskiter_read((const uint8_t *)text, strlen(text), plan, TASKITER_PLAN_WORDS);
+    taskiter_reading reading =
+        taskiter_read((const uint8_t *)text, strlen(text), plan, TASKITER_PLAN_WORDS);
     if (reading.refusal != 0) {
         printf("refused %" PRIu64 " %" PRIu64 "\n", reading.refusal, reading.line);
         return 1;
     }
-    bool graph = show_graph(), low = play("lowest", lowest), side = play("starts", starts_first), drawn = play("by lot", by_lot);
+    bool graph = show_graph(), low = play("lowest", lowest), side = play("starts", starts_first),
+         drawn = play("random", at_random);
     return graph && low && side && drawn ? 0 : 1;
 }

@@ -39,9 +39,10 @@ int last_writer(const struct plan *plan, int region) {
     return -1;
 }
 
-/* The source of a read of the region by a task: the last writer before it, from the body's end on where none stands before it; -1 if nobody
-   writes the region. */
-static int source(const struct plan *plan, bool written[MAX_TASKS][MAX_REGIONS], int reader, int region) {
+/* The source of a read of the region by a task: the last writer before it, from the body's end on
+   where none stands before it; -1 if nobody writes the region. */
+static int source(const struct plan *plan, bool written[MAX_TASKS][MAX_REGIONS], int reader,
+                  int region) {
     for (int back = 1; back <= plan->tasks; back++) {
         int i = (reader - back + plan->tasks) % plan->tasks;
         if (written[i][region])
@@ -93,7 +94,8 @@ void plan_words(const struct plan *plan, uint64_t *words) {
         at[2] = task->constant;
         at[3] = (uint64_t)task->accesses;
         for (int a = 0; a < task->accesses; a++)
-            at[4 + a] = (uint64_t)(task->access[a].region + MAX_REGIONS * (int)task->access[a].mode);
+            at[4 + a] =
+                (uint64_t)(task->access[a].region + MAX_REGIONS * (int)task->access[a].mode);
     }
 }
 
@@ -114,7 +116,8 @@ static bool names_twice(const struct task *task) {
 
 /* Whether the twelve words are those of a task of the plan, whose ranks and regions are known. */
 static bool task_of_words(const struct plan *plan, const uint64_t *at, struct task *task) {
-    if (at[0] >= (uint64_t)plan->ranks || at[1] > MAX_KERNEL || at[3] > MAX_ACCESSES || !zeros(at + 4 + at[3], at + WORDS_A_TASK))
+    if (at[0] >= (uint64_t)plan->ranks || at[1] > MAX_KERNEL || at[3] > MAX_ACCESSES ||
+        !zeros(at + 4 + at[3], at + WORDS_A_TASK))
         return false;
     task->rank = (int)at[0];
     task->kernel = (int)at[1];
@@ -124,7 +127,8 @@ static bool task_of_words(const struct plan *plan, const uint64_t *at, struct ta
         uint64_t word = at[4 + a];
         if (word / MAX_REGIONS > INOUT || word % MAX_REGIONS >= (uint64_t)plan->regions)
             return false;
-        task->access[a] = (struct access){(int)(word % MAX_REGIONS), (enum mode)(word / MAX_REGIONS)};
+        task->access[a] =
+            (struct access){(int)(word % MAX_REGIONS), (enum mode)(word / MAX_REGIONS)};
     }
     return !names_twice(task) && permitted(task->kernel, read_count(task));
 }
@@ -136,7 +140,8 @@ static bool lies(uint64_t word, uint64_t limit) {
 
 bool plan_of_words(const uint64_t *words, struct plan *plan) {
     static struct wants wants;
-    if (words[0] > MAX_PASSES || !lies(words[1], MAX_RANKS) || !lies(words[2], MAX_REGIONS) || !lies(words[3], MAX_TASKS))
+    if (words[0] > MAX_PASSES || !lies(words[1], MAX_RANKS) || !lies(words[2], MAX_REGIONS) ||
+        !lies(words[3], MAX_TASKS))
         return false;
     plan->passes = (int)words[0];
     plan->ranks = (int)words[1];

@@ -1,12 +1,21 @@
-/* A plan as the host programs know it: its words by docs/LAYOUT.md, and the sources and transfers of the paper. Nothing here uses the runtime:
-   what its answers are compared with rests on these functions. */
+/* A plan as the host programs know it: its words by docs/LAYOUT.md, and the sources and transfers
+   of the paper. Nothing here uses the runtime: what its answers are compared with rests on these
+   functions. */
 #ifndef HOST_PLAN_H
 #define HOST_PLAN_H
 
 #include <stdbool.h>
 #include <stdint.h>
 
-enum { MAX_PASSES = 1000000, MAX_RANKS = 16, MAX_REGIONS = 128, MAX_TASKS = 128, MAX_ACCESSES = 8, MAX_KERNEL = 4, MAX_TRANSFERS = 256 };
+enum {
+    MAX_PASSES = 1000000,
+    MAX_RANKS = 16,
+    MAX_REGIONS = 128,
+    MAX_TASKS = 128,
+    MAX_ACCESSES = 8,
+    MAX_KERNEL = 4,
+    MAX_TRANSFERS = 256
+};
 enum { PLAN_WORDS = 1668, START_WORDS = 4, TASK_WORDS = 132, WORDS_A_TASK = 12 };
 
 enum mode { IN, OUT, INOUT };
@@ -29,7 +38,8 @@ struct plan {
     struct task task[MAX_TASKS];
 };
 
-/* For each task and region, the other ranks that read the region with this task as the source: a bit a rank. */
+/* For each task and region, the other ranks that read the region with this task as the source: a
+   bit a rank. */
 struct wants {
     uint16_t ranks[MAX_TASKS][MAX_REGIONS];
 };
@@ -57,7 +67,8 @@ int find_wants(const struct plan *plan, struct wants *wants);
 /* The words that reading leaves for the plan. */
 void plan_words(const struct plan *plan, uint64_t *words);
 
-/* Whether the words are what reading leaves for some text; then the plan is the one that they hold. */
+/* Whether the words are what reading leaves for some text; then the plan is the one that they
+   hold. */
 bool plan_of_words(const uint64_t *words, struct plan *plan);
 
 #endif

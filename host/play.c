@@ -8,12 +8,12 @@
 
 enum { FEW_PASSES = 100 };
 
-/* A text by lot of a plan that can be played in a moment. */
-static size_t text_by_lot(struct play *play, struct lot *lot, char *text) {
+/* A random text of a plan that can be played in a moment. */
+static size_t random_text(struct play *play, struct rng *rng, char *text) {
     do
-        draw_plan(lot, MIDDLE, &play->plan);
+        draw_plan(rng, MIDDLE, &play->plan);
     while (play->plan.passes == 0 || play->plan.passes > FEW_PASSES);
-    return (size_t)draw_text(lot, &play->plan, text);
+    return (size_t)draw_text(rng, &play->plan, text);
 }
 
 /* The text in the file; longer ones are cut where the reader refuses them all the same. */
@@ -28,10 +28,13 @@ static bool text_of_file(const char *file, char *text, size_t *length) {
     return true;
 }
 
-/* Asks for the items and edges, and finds whose word each item has: a send and its receive follow their writer. */
+/* Asks for the items and edges, and finds whose word each item has: a send and its receive follow
+   their writer. */
 static bool take_graph(struct play *play) {
-    taskiter_number n = taskiter_items(play->words, TASKITER_PLAN_WORDS, play->item, TASKITER_MAX_ITEMS);
-    taskiter_number m = taskiter_edges(play->words, TASKITER_PLAN_WORDS, play->edge, TASKITER_EDGE_NUMBERS);
+    taskiter_number n =
+        taskiter_items(play->words, TASKITER_PLAN_WORDS, play->item, TASKITER_MAX_ITEMS);
+    taskiter_number m =
+        taskiter_edges(play->words, TASKITER_PLAN_WORDS, play->edge, TASKITER_EDGE_NUMBERS);
     play->items = (int)n.number;
     play->edges = (int)m.number;
     for (int a = 0, task = -1; a < play->items; a++)
@@ -39,15 +42,16 @@ static bool take_graph(struct play *play) {
     return n.refusal == 0 && m.refusal == 0;
 }
 
-bool play_begin(struct play *play, const char *file, struct lot *lot) {
+bool play_begin(struct play *play, const char *file, struct rng *rng) {
     static char text[TEXT_ROOM];
     size_t length;
     memset(play, 0, sizeof *play);
     if (file == NULL || strcmp(file, "-") == 0)
-        length = text_by_lot(play, lot, text);
+        length = random_text(play, rng, text);
     else if (!text_of_file(file, text, &length))
         return false;
-    taskiter_reading reading = taskiter_read((const uint8_t *)text, length, play->words, TASKITER_PLAN_WORDS);
+    taskiter_reading reading =
+        taskiter_read((const uint8_t *)text, length, play->words, TASKITER_PLAN_WORDS);
     struct reading expected = read_text((const uint8_t *)text, length, &play->plan);
     if (reading.refusal != (uint64_t)expected.refusal || reading.line != (uint64_t)expected.line)
         printf("expected refusal %d, line %d\n", expected.refusal, expected.line);
@@ -56,7 +60,9 @@ bool play_begin(struct play *play, const char *file, struct lot *lot) {
         return false;
     }
     loop_begin(&play->loop, &play->plan);
-    return taskiter_open(play->words, TASKITER_PLAN_WORDS, play->counts, TASKITER_COUNTS, play->values, TASKITER_VALUES) == 0 && take_graph(play);
+    return taskiter_open(play->words, TASKITER_PLAN_WORDS, play->counts, TASKITER_COUNTS,
+                         play->values, TASKITER_VALUES) == 0 &&
+           take_graph(play);
 }
 
 int play_rank(const struct play *play, int item) {
@@ -80,20 +86,23 @@ static uint64_t count_step(struct play *play, int item, int *passes, taskiter_an
 
 uint64_t play_start(struct play *play, int item) {
     taskiter_answer answer =
-        taskiter_start(play->words, TASKITER_PLAN_WORDS, play->counts, TASKITER_COUNTS, play->values, TASKITER_VALUES, (uint64_t)item);
+        taskiter_start(play->words, TASKITER_PLAN_WORDS, play->counts, TASKITER_COUNTS,
+                       play->values, TASKITER_VALUES, (uint64_t)item);
     return count_step(play, item, &play->started[item], answer);
 }
 
 uint64_t play_finish(struct play *play, int item) {
     taskiter_answer answer =
-        taskiter_finish(play->words, TASKITER_PLAN_WORDS, play->counts, TASKITER_COUNTS, play->values, TASKITER_VALUES, (uint64_t)item);
+        taskiter_finish(play->words, TASKITER_PLAN_WORDS, play->counts, TASKITER_COUNTS,
+                        play->values, TASKITER_VALUES, (uint64_t)item);
     return count_step(play, item, &play->finished[item], answer);
 }
 
 int play_end(struct play *play) {
     for (int g = 0; g < play->plan.regions; g++) {
         taskiter_answer answer =
-            taskiter_result(play->words, TASKITER_PLAN_WORDS, play->counts, TASKITER_COUNTS, play->values, TASKITER_VALUES, (uint64_t)g);
+            taskiter_result(play->words, TASKITER_PLAN_WORDS, play->counts, TASKITER_COUNTS,
+                            play->values, TASKITER_VALUES, (uint64_t)g);
         play->differ += answer.refusal != 0 || answer.word != loop_final(&play->loop, g);
         printf("value %d %" PRIu64 "\n", g, answer.word);
     }

@@ -1,5 +1,5 @@
-/* One plan played by a host: the plan's text from a file or by lot, the slices lent to the runtime, and the unrolled loop that every word is
-   compared with. */
+/* One plan played by a host: the plan's text from a file or a random one, the slices lent to the
+   runtime, and the unrolled loop that every word is compared with. */
 #ifndef HOST_PLAY_H
 #define HOST_PLAY_H
 
@@ -7,7 +7,8 @@
 #include "draw.h"
 #include "loop.h"
 
-/* `task` is an item's task, or the writer whose word it carries. `differ` counts the words that are not the unrolled loop's. */
+/* `task` is an item's task, or the writer whose word it carries. `differ` counts the words that are
+   not the unrolled loop's. */
 struct play {
     uint64_t words[TASKITER_PLAN_WORDS];
     TASKITER_COUNT_TYPE counts[TASKITER_COUNTS];
@@ -21,8 +22,9 @@ struct play {
     struct loop loop;
 };
 
-/* Reads and opens the plan in the file, or one by lot where the name is NULL or "-". Tells what is wrong and answers false where it cannot. */
-bool play_begin(struct play *play, const char *file, struct lot *lot);
+/* Reads and opens the plan in the file, or a random one where the name is NULL or "-". Says what is
+   wrong and answers false where it cannot. */
+bool play_begin(struct play *play, const char *file, struct rng *rng);
 
 /* The rank of an item. */
 int play_rank(const struct play *play, int item);
@@ -30,11 +32,13 @@ int play_rank(const struct play *play, int item);
 /* How many steps there are from its opening to its end. */
 long play_length(const struct play *play);
 
-/* Starts or finishes an item, and counts it as taken or refused. Answers the refusal, 0 if there is none. */
+/* Starts or finishes an item, and counts it as taken or refused. Answers the refusal, 0 if there is
+   none. */
 uint64_t play_start(struct play *play, int item);
 uint64_t play_finish(struct play *play, int item);
 
-/* Prints a line for each region's result, and whether anything differs from the unrolled loop. Answers the exit status. */
+/* Prints a line for each region's result, and whether anything differs from the unrolled loop.
+   Answers the exit status. */
 int play_end(struct play *play);
 
 #endif

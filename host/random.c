@@ -1,6 +1,7 @@
-/* A host that chooses by lot: random [FILE|- [SEED]]. It plays the plan in the file, or one by lot, by trying starts and finishes of any item
-   until the loop is complete. Prints the steps taken, the tries refused and the values. Exit status 0 where each word and value is the
-   unrolled loop's. */
+/* A host that chooses at random: random [FILE|- [SEED]]. It plays the plan in the file, or a random
+   one, by trying starts and finishes of any item until the loop is complete. Prints the steps
+   taken, the tries refused and the values. Exit status 0 where each word and value is the unrolled
+   loop's. */
 #include <stdio.h>
 #include <stdlib.h>
 
@@ -8,12 +9,12 @@
 
 int main(int argc, char **argv) {
     static struct play play;
-    struct lot lot = lot_of(argc > 2 ? strtoull(argv[2], NULL, 10) : 1, 0);
-    if (!play_begin(&play, argc > 1 ? argv[1] : NULL, &lot))
+    struct rng rng = rng_of(argc > 2 ? strtoull(argv[2], NULL, 10) : 1, 0);
+    if (!play_begin(&play, argc > 1 ? argv[1] : NULL, &rng))
         return 1;
     while (play.steps < play_length(&play)) {
-        int item = draw_below(&lot, play.items);
-        if (draw_below(&lot, 2) == 0)
+        int item = draw_below(&rng, play.items);
+        if (draw_below(&rng, 2) == 0)
             play_start(&play, item);
         else
             play_finish(&play, item);

@@ -8,7 +8,8 @@ enum { MAX_NUMBERS = 3, MAX_DIGITS = 20 };
 static const struct {
     const char *name;
     int numbers;
-} records[RECORDS] = {{"loop", 3}, {"start", 2}, {"begin", 3}, {"in", 1}, {"out", 1}, {"inout", 1}, {"end", 0}};
+} records[RECORDS] = {{"loop", 3}, {"start", 2}, {"begin", 3}, {"in", 1},
+                      {"out", 1},  {"inout", 1}, {"end", 0}};
 
 /* A number of a line; `beyond` says that it is above 2^64 − 1. */
 struct number {
@@ -21,7 +22,8 @@ struct line {
     struct number number[MAX_NUMBERS];
 };
 
-/* What the lines before have left: the plan so far, whose last task may be open, and the regions that a `start` has named. */
+/* What the lines before have left: the plan so far, whose last task may be open, and the regions
+   that a `start` has named. */
 struct reader {
     struct plan *plan;
     int lines;
@@ -45,7 +47,8 @@ static bool number_of(const uint8_t *field, size_t length, struct number *number
 
 static int record_of(const uint8_t *field, size_t length) {
     int record = 0;
-    while (record < RECORDS && (strlen(records[record].name) != length || memcmp(records[record].name, field, length) != 0))
+    while (record < RECORDS && (strlen(records[record].name) != length ||
+                                memcmp(records[record].name, field, length) != 0))
         record++;
     return record;
 }
@@ -85,7 +88,8 @@ static bool within(const struct plan *plan, const struct line *line) {
     case START:
         return lies(n[0], 0, (uint64_t)plan->regions - 1) && lies(n[1], 0, UINT64_MAX);
     case BEGIN:
-        return lies(n[0], 0, (uint64_t)plan->ranks - 1) && lies(n[1], 0, MAX_KERNEL) && lies(n[2], 0, UINT64_MAX);
+        return lies(n[0], 0, (uint64_t)plan->ranks - 1) && lies(n[1], 0, MAX_KERNEL) &&
+               lies(n[2], 0, UINT64_MAX);
     case END:
         return true;
     default:
@@ -95,7 +99,9 @@ static bool within(const struct plan *plan, const struct line *line) {
 
 /* Whether the line is one task or one access too many. */
 static bool too_many(const struct plan *plan, const struct line *line) {
-    return line->record == BEGIN ? plan->tasks == MAX_TASKS : is_access(line) && plan->task[plan->tasks - 1].accesses == MAX_ACCESSES;
+    return line->record == BEGIN
+               ? plan->tasks == MAX_TASKS
+               : is_access(line) && plan->task[plan->tasks - 1].accesses == MAX_ACCESSES;
 }
 
 static bool named_before(const struct reader *reader, const struct line *line) {
@@ -113,7 +119,8 @@ static bool named_before(const struct reader *reader, const struct line *line) {
 /* The first refusal that fits a line in form, or 0. */
 static int line_refusal(const struct reader *reader, const struct line *line) {
     const struct plan *plan = reader->plan;
-    if ((line->record == LOOP) != (reader->lines == 0) || (line->record == START && plan->tasks > 0))
+    if ((line->record == LOOP) != (reader->lines == 0) ||
+        (line->record == START && plan->tasks > 0))
         return 2;
     if (line->record == BEGIN && reader->open)
         return 4;
@@ -136,14 +143,16 @@ static void take(struct reader *reader, const struct line *line) {
     struct task *last;
     switch (line->record) {
     case LOOP:
-        *plan = (struct plan){.passes = (int)n[0].value, .ranks = (int)n[1].value, .regions = (int)n[2].value};
+        *plan = (struct plan){
+            .passes = (int)n[0].value, .ranks = (int)n[1].value, .regions = (int)n[2].value};
         break;
     case START:
         plan->start[n[0].value] = n[1].value;
         reader->started[n[0].value] = true;
         break;
     case BEGIN:
-        plan->task[plan->tasks++] = (struct task){.rank = (int)n[0].value, .kernel = (int)n[1].value, .constant = n[2].value};
+        plan->task[plan->tasks++] = (struct task){
+            .rank = (int)n[0].value, .kernel = (int)n[1].value, .constant = n[2].value};
         reader->open = true;
         break;
     case END:
@@ -151,7 +160,8 @@ static void take(struct reader *reader, const struct line *line) {
         break;
     default:
         last = &plan->task[plan->tasks - 1];
-        last->access[last->accesses++] = (struct access){(int)n[0].value, (enum mode)(line->record - ACCESS_IN)};
+        last->access[last->accesses++] =
+            (struct access){(int)n[0].value, (enum mode)(line->record - ACCESS_IN)};
     }
 }
 

@@ -1,4 +1,5 @@
-/* What reading a text answers, straight from the paper's list of refusals 1 to 10. It uses nothing of the runtime. */
+/* What reading a text answers, straight from the paper's list of refusals 1 to 10. It uses nothing
+   of the runtime. */
 #ifndef HOST_READING_H
 #define HOST_READING_H
 

@@ -1,5 +1,6 @@
 /* The groups of stress that play plans, and what the groups share. */
 #include <inttypes.h>
+#include <limits.h>
 #include <stdlib.h>
 #include <string.h>
 
@@ -10,39 +11,49 @@
 enum { FEW_STEPS = 400 };
 
 enum size size_of(long number) {
-    return number % 32 == 31 ? LARGEST : number % 16 == 7 ? LARGE : number % 4 == 2 ? MIDDLE : SMALL;
-}
-
-void put_drawn_plan(struct trial *trial, struct lot *lot) {
-    static struct plan plan;
-    draw_plan(lot, size_of(trial->number), &plan);
-    fill_memory(trial, lot);
-    put_plan(trial, &plan);
-}
-
-uint64_t draw_asked(struct lot *lot, int n) {
-    switch (draw_below(lot, 24)) {
-    case 0:
-        return (uint64_t)n;
-    case 1:
-        return (uint64_t)(n + draw_below(lot, 3 * MAX_ITEMS));
-    case 2:
-        return draw_word(lot);
-    case 3:
-        return UINT64_MAX;
-    case 4:
-        return (UINT64_C(1) << (8 + draw_below(lot, 56))) + (uint64_t)draw_below(lot, n);
+    switch (number % 32) {
+    case 31:
+        return LARGEST;
+    case 15:
+        return RING;
+    case 7:
+    case 23:
+        return LARGE;
     default:
-        return (uint64_t)draw_below(lot, n);
+        return number % 4 == 2 ? MIDDLE : SMALL;
     }
 }
 
-struct lengths draw_enough(struct lot *lot) {
+void put_drawn_plan(struct trial *trial, struct rng *rng) {
+    static struct plan plan;
+    draw_plan(rng, size_of(trial->number), &plan);
+    fill_memory(trial, rng);
+    put_plan(trial, &plan);
+}
+
+uint64_t draw_asked(struct rng *rng, int n) {
+    switch (draw_below(rng, 24)) {
+    case 0:
+        return (uint64_t)n;
+    case 1:
+        return (uint64_t)(n + draw_below(rng, 3 * MAX_ITEMS));
+    case 2:
+        return draw_word(rng);
+    case 3:
+        return UINT64_MAX;
+    case 4:
+        return (UINT64_C(1) << (8 + draw_below(rng, 56))) + (uint64_t)draw_below(rng, n);
+    default:
+        return (uint64_t)draw_below(rng, n);
+    }
+}
+
+struct lengths draw_enough(struct rng *rng) {
     struct lengths lengths = least;
-    if (draw_below(lot, 4) == 0) {
-        lengths.plan += (size_t)draw_below(lot, GUARD);
-        lengths.counts += (size_t)draw_below(lot, GUARD);
-        lengths.values += (size_t)draw_below(lot, GUARD);
+    if (draw_below(rng, 4) == 0) {
+        lengths.plan += (size_t)draw_below(rng, GUARD);
+        lengths.counts += (size_t)draw_below(rng, GUARD);
+        lengths.values += (size_t)draw_below(rng, GUARD);
     }
     return lengths;
 }
@@ -55,16 +66,18 @@ struct order {
 };
 
 /* An accepted step has the word of the unrolled loop. */
-static void compare_word(struct trial *trial, struct order *order, enum call call, int item, uint64_t word) {
+static void compare_word(struct trial *trial, struct order *order, enum call call, int item,
+                         uint64_t word) {
     int pass = (int)trial->expected.counts[call == START_CALL ? item : MAX_ITEMS + item] - 1;
     uint64_t expected = loop_word(&order->loop, pass, trial->shape.graph.item[item].task);
     order->steps++;
     if (word != expected)
-        differ(trial, "item %d has %" PRIu64 " in pass %d, the unrolled loop %" PRIu64, item, word, pass, expected);
+        differ(trial, "item %d has %" PRIu64 " in pass %d, the unrolled loop %" PRIu64, item, word,
+               pass, expected);
 }
 
-int find_free(struct trial *trial, struct lot *lot, int pick, enum call call) {
-    int n = trial->shape.graph.items, from = pick < 2 ? 0 : draw_below(lot, n);
+int find_free(struct trial *trial, struct rng *rng, int pick, enum call call) {
+    int n = trial->shape.graph.items, from = pick < 2 ? 0 : draw_below(rng, n);
     for (int k = 0; k < n; k++) {
         int item = pick == 1 ? n - 1 - k : (from + k) % n;
         if (is_free(call, &trial->shape, &trial->expected, item))
@@ -74,30 +87,33 @@ int find_free(struct trial *trial, struct lot *lot, int pick, enum call call) {
 }
 
 /* Takes a step that is free. While an item has a pass left there is one. */
-static void take_free(struct trial *trial, struct lot *lot, struct order *order) {
-    enum call call = draw_below(lot, 100) < order->starts ? START_CALL : FINISH_CALL;
-    int item = find_free(trial, lot, order->pick, call);
+static void take_free(struct trial *trial, struct rng *rng, struct order *order) {
+    enum call call = draw_below(rng, 100) < order->starts ? START_CALL : FINISH_CALL;
+    int item = find_free(trial, rng, order->pick, call);
     if (item < 0) {
         call = call == START_CALL ? FINISH_CALL : START_CALL;
-        item = find_free(trial, lot, order->pick, call);
+        item = find_free(trial, rng, order->pick, call);
     }
     if (item < 0)
         differ(trial, "no step is free, and the loop is not complete");
-    struct answer answer = try_call(trial, call, draw_enough(lot), (uint64_t)item);
+    struct answer answer = try_call(trial, call, draw_enough(rng), (uint64_t)item);
     compare_word(trial, order, call, item, answer.word);
 }
 
 /* Makes a call that may well be refused. */
-static void take_blind(struct trial *trial, struct lot *lot, struct order *order) {
-    static const enum call calls[] = {START_CALL, START_CALL, START_CALL, FINISH_CALL, FINISH_CALL, RESULT_CALL};
-    enum call call = calls[draw_below(lot, 6)];
-    uint64_t asked = draw_asked(lot, call == RESULT_CALL ? trial->shape.plan.regions : trial->shape.graph.items);
-    struct answer answer = try_call(trial, call, draw_enough(lot), asked);
+static void take_blind(struct trial *trial, struct rng *rng, struct order *order) {
+    static const enum call calls[] = {START_CALL,  START_CALL,  START_CALL,
+                                      FINISH_CALL, FINISH_CALL, RESULT_CALL};
+    enum call call = calls[draw_below(rng, 6)];
+    uint64_t asked =
+        draw_asked(rng, call == RESULT_CALL ? trial->shape.plan.regions : trial->shape.graph.items);
+    struct answer answer = try_call(trial, call, draw_enough(rng), asked);
     if (answer.refusal == 0 && call != RESULT_CALL)
         compare_word(trial, order, call, (int)asked, answer.word);
 }
 
-/* At the end the steps are two for each pass of each item, and the results are the final numbers. */
+/* At the end the steps are two for each pass of each item, and the results are the final
+   numbers. */
 static void compare_end(struct trial *trial, struct order *order) {
     const struct plan *plan = &trial->shape.plan;
     long expected = 2L * plan->passes * trial->shape.graph.items;
@@ -106,34 +122,45 @@ static void compare_end(struct trial *trial, struct order *order) {
     for (int g = 0; g < plan->regions; g++) {
         uint64_t word = try_call(trial, RESULT_CALL, least, (uint64_t)g).word;
         if (word != loop_final(&order->loop, g))
-            differ(trial, "region %d has %" PRIu64 ", the unrolled loop %" PRIu64, g, word, loop_final(&order->loop, g));
+            differ(trial, "region %d has %" PRIu64 ", the unrolled loop %" PRIu64, g, word,
+                   loop_final(&order->loop, g));
     }
 }
 
-/* Plays the plan in the memory from its opening to the end, or some steps of it where it has a million passes. */
-static void play_plan(struct trial *trial, struct lot *lot) {
+/* Plays the plan in the memory from its opening to the end, or so many steps of it. Calls on
+   damaged plans and counts, and with slices too short, come before the opening and between the
+   steps. */
+static void play_plan(struct trial *trial, struct rng *rng, long most) {
     static const int parts[] = {5, 50, 95};
-    struct order order = {.blind = parts[draw_below(lot, 3)] / 2, .starts = parts[draw_below(lot, 3)], .pick = draw_below(lot, 4)};
-    bool whole = trial->shape.plan.passes < MAX_PASSES / 2;
+    struct order order = {.blind = parts[draw_below(rng, 3)] / 2,
+                          .starts = parts[draw_below(rng, 3)],
+                          .pick = draw_below(rng, 4)};
     loop_begin(&order.loop, &trial->shape.plan);
-    try_call(trial, OPEN_CALL, draw_enough(lot), 0);
-    while (!complete(&trial->shape, &trial->expected) && (whole || order.steps < FEW_STEPS)) {
-        if (draw_below(lot, 100) < order.blind)
-            take_blind(trial, lot, &order);
+    try_damage(trial, rng);
+    try_call(trial, OPEN_CALL, draw_enough(rng), 0);
+    while (!complete(&trial->shape, &trial->expected) && order.steps < most) {
+        if (draw_below(rng, 100) < order.blind)
+            take_blind(trial, rng, &order);
         else
-            take_free(trial, lot, &order);
+            take_free(trial, rng, &order);
+        if (draw_below(rng, 64) == 0)
+            try_damage(trial, rng);
     }
-    if (whole) {
+    if (complete(&trial->shape, &trial->expected)) {
         compare_end(trial, &order);
         for (int k = 0; k < 10; k++)
-            take_blind(trial, lot, &order);
+            take_blind(trial, rng, &order);
     }
     loop_end(&order.loop);
 }
 
-void steps_group(struct trial *trial, struct lot *lot) {
-    put_drawn_plan(trial, lot);
-    play_plan(trial, lot);
+/* Some plans are opened again in the midst of a play. Of a million passes only some steps are
+   played. */
+void steps_group(struct trial *trial, struct rng *rng) {
+    put_drawn_plan(trial, rng);
+    if (draw_below(rng, 4) == 0)
+        play_plan(trial, rng, draw_below(rng, FEW_STEPS));
+    play_plan(trial, rng, trial->shape.plan.passes < MAX_PASSES / 2 ? LONG_MAX : FEW_STEPS);
 }
 
 /* The edges are those of the rule, tried on all pairs. */
@@ -143,20 +170,24 @@ static void try_rule(struct trial *trial) {
     for (int a = 0; a < graph->items; a++)
         for (int b = 0; b < graph->items; b++)
             for (int d = 0; d < 3; d++) {
-                bool listed = e < graph->edges && graph->edge[e].from == a && graph->edge[e].to == b && graph->edge[e].distance == d;
+                bool listed = e < graph->edges && graph->edge[e].from == a &&
+                              graph->edge[e].to == b && graph->edge[e].distance == d;
                 if (listed != rule_holds(graph, a, b, d))
-                    differ(trial, "the rule and the walk do not agree on the edge %d %d %d", a, b, d);
+                    differ(trial, "the rule and the walk do not agree on the edge %d %d %d", a, b,
+                           d);
                 e += listed;
             }
 }
 
-void graph_group(struct trial *trial, struct lot *lot) {
-    put_drawn_plan(trial, lot);
+void graph_group(struct trial *trial, struct rng *rng) {
+    put_drawn_plan(trial, rng);
     try_rule(trial);
-    if (size_of(trial->number) == LARGEST && trial->shape.graph.items != MAX_ITEMS)
+    if (size_of(trial->number) >= LARGEST && trial->shape.graph.items != MAX_ITEMS)
         differ(trial, "a largest plan has %d items", trial->shape.graph.items);
-    try_items(trial, PLAN_WORDS + (size_t)draw_below(lot, GUARD), ITEM_ROOM + (size_t)draw_below(lot, GUARD));
-    try_edges(trial, PLAN_WORDS + (size_t)draw_below(lot, GUARD), EDGE_ROOM + (size_t)draw_below(lot, GUARD));
+    try_items(trial, PLAN_WORDS + (size_t)draw_below(rng, GUARD),
+              ITEM_ROOM + (size_t)draw_below(rng, GUARD));
+    try_edges(trial, PLAN_WORDS + (size_t)draw_below(rng, GUARD),
+              EDGE_ROOM + (size_t)draw_below(rng, GUARD));
 }
 
 static void *room(size_t size) {
@@ -168,7 +199,9 @@ static void *room(size_t size) {
 
 /* Slices of exactly these lengths, which hold nothing yet. */
 static struct slices bare_slices(struct lengths lengths) {
-    return (struct slices){room(lengths.plan * sizeof(uint64_t)), room(lengths.counts * sizeof(uint32_t)), room(lengths.values * sizeof(uint64_t))};
+    return (struct slices){room(lengths.plan * sizeof(uint64_t)),
+                           room(lengths.counts * sizeof(uint32_t)),
+                           room(lengths.values * sizeof(uint64_t))};
 }
 
 static void free_slices(struct slices slices) {
@@ -177,34 +210,36 @@ static void free_slices(struct slices slices) {
     free(slices.values);
 }
 
-static struct answer try_bare(struct trial *trial, struct slices slices, enum call call, uint64_t number) {
+static struct answer try_bare(struct trial *trial, struct slices slices, enum call call,
+                              uint64_t number) {
     struct answer expected = model_call(call, &trial->shape, &trial->expected, least, number);
     compare_answer(trial, call, number, expected, runtime_call(call, slices, least, number));
     return expected;
 }
 
-/* Steps by lot to the end, or some hundreds. */
-static void play_bare(struct trial *trial, struct lot *lot, struct slices slices) {
+/* Random steps to the end, or some hundreds. */
+static void play_bare(struct trial *trial, struct rng *rng, struct slices slices) {
     int n = trial->shape.graph.items;
     try_bare(trial, slices, OPEN_CALL, 0);
     for (int k = 0; k < FEW_STEPS && !complete(&trial->shape, &trial->expected); k++) {
-        enum call call = draw_below(lot, 2) == 0 ? START_CALL : FINISH_CALL;
-        int item = find_free(trial, lot, 2, call);
-        try_bare(trial, slices, call, (uint64_t)(item < 0 ? draw_below(lot, n) : item));
+        enum call call = draw_below(rng, 2) == 0 ? START_CALL : FINISH_CALL;
+        int item = find_free(trial, rng, 2, call);
+        try_bare(trial, slices, call, (uint64_t)(item < 0 ? draw_below(rng, n) : item));
     }
     for (int g = 0; g < trial->shape.plan.regions; g++)
         try_bare(trial, slices, RESULT_CALL, (uint64_t)g);
 }
 
 /* Reads a text of the plan that ends where its block ends. */
-static void read_bare(struct trial *trial, struct lot *lot, struct slices slices) {
+static void read_bare(struct trial *trial, struct rng *rng, struct slices slices) {
     static char text[TEXT_ROOM];
-    size_t length = (size_t)draw_text(lot, &trial->shape.plan, text);
+    size_t length = (size_t)draw_text(rng, &trial->shape.plan, text);
     uint8_t *block = room(length);
     memcpy(block, text, length);
     taskiter_reading reading = taskiter_read(block, length, slices.plan, PLAN_WORDS);
     count_answer(trial, reading.refusal);
-    if (reading.refusal != 0 || memcmp(slices.plan, trial->expected.plan, sizeof trial->expected.plan) != 0)
+    if (reading.refusal != 0 ||
+        memcmp(slices.plan, trial->expected.plan, sizeof trial->expected.plan) != 0)
         differ(trial, "reading gives another plan");
     free(block);
 }
@@ -213,10 +248,12 @@ static void read_bare(struct trial *trial, struct lot *lot, struct slices slices
 static void graph_bare(struct trial *trial, struct slices slices) {
     uint16_t *items = room(ITEM_ROOM * sizeof *items);
     uint32_t *edges = room(EDGE_ROOM * sizeof *edges);
-    taskiter_number n = taskiter_items(slices.plan, PLAN_WORDS, items, ITEM_ROOM), m = taskiter_edges(slices.plan, PLAN_WORDS, edges, EDGE_ROOM);
+    taskiter_number n = taskiter_items(slices.plan, PLAN_WORDS, items, ITEM_ROOM),
+                    m = taskiter_edges(slices.plan, PLAN_WORDS, edges, EDGE_ROOM);
     count_answer(trial, n.refusal);
     count_answer(trial, m.refusal);
-    if (n.number != (uint64_t)trial->shape.graph.items || m.number != (uint64_t)trial->shape.graph.edges)
+    if (n.number != (uint64_t)trial->shape.graph.items ||
+        m.number != (uint64_t)trial->shape.graph.edges)
         differ(trial, "there are %" PRIu64 " items and %" PRIu64 " edges", n.number, m.number);
     free(items);
     free(edges);
@@ -226,16 +263,17 @@ static void graph_bare(struct trial *trial, struct slices slices) {
 static void try_short_bare(struct trial *trial, struct lengths lengths) {
     struct slices slices = bare_slices(lengths);
     for (int call = 0; call < CALLS; call++)
-        compare_answer(trial, (enum call)call, 0, (struct answer){11, 0}, runtime_call((enum call)call, slices, lengths, 0));
+        compare_answer(trial, (enum call)call, 0, (struct answer){11, 0},
+                       runtime_call((enum call)call, slices, lengths, 0));
     free_slices(slices);
 }
 
-void bare_group(struct trial *trial, struct lot *lot) {
-    put_drawn_plan(trial, lot);
+void bare_group(struct trial *trial, struct rng *rng) {
+    put_drawn_plan(trial, rng);
     struct slices slices = bare_slices(least);
-    read_bare(trial, lot, slices);
+    read_bare(trial, rng, slices);
     graph_bare(trial, slices);
-    play_bare(trial, lot, slices);
+    play_bare(trial, rng, slices);
     free_slices(slices);
     try_short_bare(trial, (struct lengths){PLAN_WORDS - 1, COUNTS, VALUES});
     try_short_bare(trial, (struct lengths){PLAN_WORDS, COUNTS - 1, VALUES});

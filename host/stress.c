@@ -1,22 +1,36 @@
-/* Plays random plans in random orders against the unrolled loop, and compares every call with a model made from the paper alone: the answer, the
-   items, the edges, and every byte of the lent slices and of the guards around them. stress [SEED [PLANS]]. A line a group, and one for all: its
-   plans and calls, how many were accepted, and how often each refusal was given. Exit status 0 where nothing differs and each refusal was met. */
+/* The test program that the paper asks for ("Tying down the contracts", item 4): plays random plans
+   in random orders against the unrolled loop, runs the cases that the paper lists without a star,
+   and compares every call with a model made from the paper alone: the answer, the items, the edges,
+   and every byte of the lent slices and of the guards around them.
+
+   stress [SEED [PLANS]] prints a line a group, and one for all: its plans and calls, how many were
+   accepted, and how often each refusal was given. Exit status 0 where nothing differs and each
+   refusal was met, 1 where not.
+
+   stress --control answer|word|edge|line [SEED [PLANS]] is a run in which one answer, one word of
+   the lent state after a call, one edge or one line number is changed before it is compared. It has
+   to end with the difference reported and status 1. The status is 2 where it is not reported. */
 #include <stdio.h>
 #include <stdlib.h>
 #include <string.h>
 
 #include "groups.h"
 
-enum { DEFAULT_PLANS = 1000 };
+enum { DEFAULT_PLANS = 1000, MOST_PLANS = 1000000 };
 
-/* What the groups have in common: the seed and the number of plans of each; and how many there were, and how their calls were answered. */
+/* What the groups have in common: the seed, the number of plans of each and the control; and how
+   many there were, and how their calls were answered. */
 struct count {
     uint64_t seed, groups;
-    long plans, calls, answered[LAST_REFUSAL + 1];
+    struct control control;
+    long each, plans, calls, texts, answered[LAST_REFUSAL + 1];
 };
 
-static void print_line(const char *name, long plans, long calls, const long *answered) {
-    printf("%-8s %ld plans, %ld calls, %ld accepted", name, plans, calls, answered[0]);
+static void print_line(const char *name, long plans, long calls, long texts, const long *answered) {
+    printf("%-8s %ld plans, %ld calls", name, plans, calls);
+    if (texts > 0)
+        printf(" (%ld texts)", texts);
+    printf(", %ld accepted", answered[0]);
     for (int r = 1; r <= LAST_REFUSAL; r++)
         if (answered[r] > 0)
             printf(", %d: %ld", r, answered[r]);
@@ -24,37 +38,82 @@ static void print_line(const char *name, long plans, long calls, const long *ans
     fflush(stdout);
 }
 
-/* Runs a group over its plans, prints its line and adds its calls to those of all. */
-static void run_group(const char *name, void (*group)(struct trial *, struct lot *), struct count *all) {
+/* Runs a group over so many plans, prints its line and adds its calls to those of all. */
+static void run_group(const char *name, void (*group)(struct trial *, struct rng *), long plans,
+                      struct count *all) {
     static struct trial trial;
     memset(&trial, 0, sizeof trial);
     trial.group = name;
+    trial.control = &all->control;
     trial.seed = all->seed;
-    for (; trial.number < all->plans; trial.number++) {
-        struct lot lot = lot_of(all->seed, all->groups << 24 | (uint64_t)trial.number);
-        group(&trial, &lot);
+    for (; trial.number < plans; trial.number++) {
+        struct rng rng = rng_of(all->seed, all->groups << 24 | (uint64_t)trial.number);
+        group(&trial, &rng);
     }
-    print_line(name, all->plans, trial.calls, trial.answered);
+    print_line(name, plans, trial.calls, trial.texts, trial.answered);
     all->groups++;
+    all->plans += plans;
     all->calls += trial.calls;
+    all->texts += trial.texts;
     for (int r = 0; r <= LAST_REFUSAL; r++)
         all->answered[r] += trial.answered[r];
 }
 
-int main(int argc, char **argv) {
-    struct count all = {.seed = argc > 1 ? strtoull(argv[1], NULL, 10) : 1, .plans = argc > 2 ? strtol(argv[2], NULL, 10) : DEFAULT_PLANS};
-    int status = 0;
-    run_group("reading", reading_group, &all);
-    run_group("graph", graph_group, &all);
-    run_group("steps", steps_group, &all);
-    run_group("damage", damage_group, &all);
-    run_group("short", short_group, &all);
-    run_group("bare", bare_group, &all);
-    print_line("all", (long)all.groups * all.plans, all.calls, all.answered);
-    for (int r = 1; r <= LAST_REFUSAL; r++)
-        if (all.answered[r] == 0) {
-            printf("refusal %d was not met\n", r);
-            status = 1;
+static void run_groups(struct count *all) {
+    run_group("paper", paper_group, 1, all);
+    run_group("reading", reading_group, all->each, all);
+    run_group("graph", graph_group, all->each, all);
+    run_group("steps", steps_group, all->each, all);
+    run_group("damage", damage_group, all->each, all);
+    run_group("short", short_group, all->each, all);
+    run_group("bare", bare_group, all->each, all);
+    print_line("all", all->plans, all->calls, all->texts, all->answered);
+}
+
+/* Prepares the control that an argument names. In each plan there are at least so many chances for
+   the change; one of them is drawn. Answers false where it names none. */
+static bool take_control(struct count *all, const char *name) {
+    static const char *const names[CHANGES] = {"", "answer", "word", "edge", "line"};
+    static const int chances[CHANGES] = {0, 150, 150, 1, 16};
+    struct control *control = &all->control;
+    for (int change = NO_CHANGE + 1; change < CHANGES; change++)
+        if (strcmp(name, names[change]) == 0) {
+            control->change = (enum change)change;
+            control->rng = rng_of(all->seed, UINT64_MAX);
+            control->chances = draw_below(&control->rng, chances[change] * (int)all->each);
+            return true;
         }
-    return status;
+    return false;
+}
+
+/* Whether each refusal was met. */
+static bool all_met(const struct count *all) {
+    bool met = true;
+    for (int r = 1; r <= LAST_REFUSAL; r++)
+        if (all->answered[r] == 0) {
+            printf("refusal %d was not met\n", r);
+            met = false;
+        }
+    return met;
+}
+
+int main(int argc, char **argv) {
+    bool controlled = argc > 2 && strcmp(argv[1], "--control") == 0;
+    int first = controlled ? 3 : 1;
+    struct count all = {.seed = 1, .each = DEFAULT_PLANS};
+    if (argc > first)
+        all.seed = strtoull(argv[first], NULL, 10);
+    if (argc > first + 1)
+        all.each = strtol(argv[first + 1], NULL, 10);
+    if (all.each < 1 || all.each > MOST_PLANS || (controlled && !take_control(&all, argv[2]))) {
+        fprintf(stderr, "usage: stress [--control answer|word|edge|line] [SEED [PLANS]]\n");
+        return 2;
+    }
+    run_groups(&all);
+    if (controlled) {
+        printf("control: %s\n",
+               all.control.made ? "the change was not reported" : "nothing was changed");
+        return 2;
+    }
+    return all_met(&all) ? 0 : 1;
 }

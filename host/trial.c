@@ -8,21 +8,76 @@
 
 #include "../include/taskiter.h"
 
-_Static_assert(PLAN_WORDS == TASKITER_PLAN_WORDS && COUNTS == TASKITER_COUNTS && VALUES == TASKITER_VALUES, "sizes of docs/LAYOUT.md");
-_Static_assert(ITEM_ROOM == TASKITER_MAX_ITEMS && EDGE_ROOM == TASKITER_EDGE_NUMBERS, "sizes of docs/LAYOUT.md");
+_Static_assert(PLAN_WORDS == TASKITER_PLAN_WORDS && COUNTS == TASKITER_COUNTS &&
+                   VALUES == TASKITER_VALUES,
+               "sizes of docs/LAYOUT.md");
+_Static_assert(ITEM_ROOM == TASKITER_MAX_ITEMS && EDGE_ROOM == TASKITER_EDGE_NUMBERS,
+               "sizes of docs/LAYOUT.md");
 
 const struct lengths least = {PLAN_WORDS, COUNTS, VALUES};
 
 static const char *const call_names[CALLS] = {"open", "start", "finish", "result"};
 
+static const char *const change_names[CHANGES] = {"nothing", "an answer", "a word", "an edge",
+                                                  "a line"};
+
 void differ(const struct trial *trial, const char *form, ...) {
     va_list rest;
-    printf("%s: differs at seed %" PRIu64 ", plan %ld, call %ld: ", trial->group, trial->seed, trial->number, trial->calls);
+    printf("%s: differs at seed %" PRIu64 ", plan %ld, call %ld: ", trial->group, trial->seed,
+           trial->number, trial->calls);
     va_start(rest, form);
     vprintf(form, rest);
     va_end(rest);
     printf("\n");
     exit(1);
+}
+
+/* Whether the control makes its change here, where there is a chance for it. */
+static bool makes_change(struct trial *trial, enum change change) {
+    struct control *control = trial->control;
+    if (control->change != change || control->made || control->chances-- > 0)
+        return false;
+    printf("%s: control changes %s at plan %ld, call %ld\n", trial->group, change_names[change],
+           trial->number, trial->calls);
+    return control->made = true;
+}
+
+/* A number with one bit of it changed. */
+static uint64_t flipped(struct control *control, uint64_t number, int bits) {
+    return number ^ UINT64_C(1) << draw_below(&control->rng, bits);
+}
+
+/* The answer to compare: as it is, or with a bit of its refusal or word changed. */
+static struct answer with_change(struct trial *trial, struct answer answer) {
+    struct control *control = trial->control;
+    if (!makes_change(trial, CHANGED_ANSWER))
+        return answer;
+    if (draw_below(&control->rng, 2) == 0)
+        answer.refusal = flipped(control, answer.refusal, 64);
+    else
+        answer.word = flipped(control, answer.word, 64);
+    return answer;
+}
+
+/* Changes a bit of one count or of one value. */
+static void change_state(struct trial *trial) {
+    struct control *control = trial->control;
+    if (!makes_change(trial, CHANGED_WORD))
+        return;
+    int at = draw_below(&control->rng, COUNTS + VALUES);
+    if (at < COUNTS)
+        trial->lent.counts[at] = (uint32_t)flipped(control, trial->lent.counts[at], 32);
+    else
+        trial->lent.values[at - COUNTS] = flipped(control, trial->lent.values[at - COUNTS], 64);
+}
+
+/* Changes a bit of one of the three numbers of an edge, where there are edges. */
+static void change_edge(struct trial *trial, uint32_t *edges, uint64_t number) {
+    struct control *control = trial->control;
+    if (number == 0 || !makes_change(trial, CHANGED_EDGE))
+        return;
+    uint32_t *at = &edges[draw_below(&control->rng, 3 * (int)number)];
+    *at = (uint32_t)flipped(control, *at, 32);
 }
 
 void count_answer(struct trial *trial, uint64_t refusal) {
@@ -32,11 +87,11 @@ void count_answer(struct trial *trial, uint64_t refusal) {
     trial->answered[refusal]++;
 }
 
-void fill_memory(struct trial *trial, struct lot *lot) {
+void fill_memory(struct trial *trial, struct rng *rng) {
     uint64_t *word = (uint64_t *)&trial->lent;
     _Static_assert(sizeof trial->lent % sizeof *word == 0, "no word is left over");
     for (size_t k = 0; k < sizeof trial->lent / sizeof *word; k++)
-        word[k] = draw(lot);
+        word[k] = draw(rng);
     trial->expected = trial->lent;
 }
 
@@ -51,8 +106,9 @@ void put_word(struct trial *trial, int word, uint64_t value) {
     make_shape(trial->lent.plan, &trial->shape);
 }
 
-/* Compares two stretches of memory and tells the first byte that differs. */
-static void compare_bytes(const struct trial *trial, const char *what, const void *expected, const void *got, size_t length) {
+/* Compares two stretches of memory and prints the first byte that differs. */
+static void compare_bytes(const struct trial *trial, const char *what, const void *expected,
+                          const void *got, size_t length) {
     const uint8_t *e = expected, *g = got;
     if (memcmp(e, g, length) == 0)
         return;
@@ -62,8 +118,9 @@ static void compare_bytes(const struct trial *trial, const char *what, const voi
     differ(trial, "byte %zu of %s is %d, expected %d", k, what, g[k], e[k]);
 }
 
-static void compare_memory(const struct trial *trial, const char *call) {
+static void compare_memory(struct trial *trial, const char *call) {
     char what[64];
+    change_state(trial);
     snprintf(what, sizeof what, "the memory after %s", call);
     compare_bytes(trial, what, &trial->expected, &trial->lent, sizeof trial->lent);
 }
@@ -86,14 +143,19 @@ struct answer runtime_call(enum call call, struct slices s, struct lengths l, ui
     return (struct answer){answer.refusal, answer.word};
 }
 
-void compare_answer(struct trial *trial, enum call call, uint64_t number, struct answer expected, struct answer got) {
+void compare_answer(struct trial *trial, enum call call, uint64_t number, struct answer expected,
+                    struct answer got) {
     count_answer(trial, expected.refusal);
+    got = with_change(trial, got);
     if (got.refusal != expected.refusal || got.word != expected.word)
-        differ(trial, "%s %" PRIu64 " answers refusal %" PRIu64 ", word %" PRIu64 ", expected %" PRIu64 " and %" PRIu64, call_names[call], number,
-               got.refusal, got.word, expected.refusal, expected.word);
+        differ(trial,
+               "%s %" PRIu64 " answers refusal %" PRIu64 ", word %" PRIu64 ", expected %" PRIu64
+               " and %" PRIu64,
+               call_names[call], number, got.refusal, got.word, expected.refusal, expected.word);
 }
 
-struct answer try_call(struct trial *trial, enum call call, struct lengths lengths, uint64_t number) {
+struct answer try_call(struct trial *trial, enum call call, struct lengths lengths,
+                       uint64_t number) {
     struct slices slices = {trial->lent.plan, trial->lent.counts, trial->lent.values};
     struct answer expected = model_call(call, &trial->shape, &trial->expected, lengths, number);
     struct answer got = runtime_call(call, slices, lengths, number);
@@ -102,20 +164,25 @@ struct answer try_call(struct trial *trial, enum call call, struct lengths lengt
     return expected;
 }
 
-struct reading try_read(struct trial *trial, const uint8_t *text, size_t length, size_t plan_length) {
+struct reading try_read(struct trial *trial, const uint8_t *text, size_t length,
+                        size_t plan_length) {
     static struct plan plan;
     static uint8_t kept[2 * TEXT_ROOM];
     memcpy(kept, text, length);
-    struct reading expected = plan_length < PLAN_WORDS ? (struct reading){11, 0} : read_text(text, length, &plan);
+    struct reading expected =
+        plan_length < PLAN_WORDS ? (struct reading){11, 0} : read_text(text, length, &plan);
     if (expected.refusal == 0)
         plan_words(&plan, trial->expected.plan);
     else if (expected.refusal != 11)
         memset(trial->expected.plan, 0, sizeof trial->expected.plan);
     taskiter_reading got = taskiter_read(text, length, trial->lent.plan, plan_length);
     count_answer(trial, (uint64_t)expected.refusal);
+    trial->texts++;
+    if (makes_change(trial, CHANGED_LINE))
+        got.line = flipped(trial->control, got.line, 64);
     if (got.refusal != (uint64_t)expected.refusal || got.line != (uint64_t)expected.line)
-        differ(trial, "reading answers refusal %" PRIu64 ", line %" PRIu64 ", expected %d and %d", got.refusal, got.line, expected.refusal,
-               expected.line);
+        differ(trial, "reading answers refusal %" PRIu64 ", line %" PRIu64 ", expected %d and %d",
+               got.refusal, got.line, expected.refusal, expected.line);
     compare_memory(trial, "reading");
     compare_bytes(trial, "the text", kept, text, length);
     if (expected.refusal == 0)
@@ -123,15 +190,19 @@ struct reading try_read(struct trial *trial, const uint8_t *text, size_t length,
     return expected;
 }
 
-static void compare_number(struct trial *trial, const char *call, uint64_t refusal, uint64_t number, taskiter_number got) {
+static void compare_number(struct trial *trial, const char *call, uint64_t refusal, uint64_t number,
+                           taskiter_number got) {
     count_answer(trial, refusal);
     if (got.refusal != refusal || got.number != number)
-        differ(trial, "%s answer refusal %" PRIu64 ", number %" PRIu64 ", expected %" PRIu64 " and %" PRIu64, call, got.refusal, got.number,
-               refusal, number);
+        differ(trial,
+               "%s answer refusal %" PRIu64 ", number %" PRIu64 ", expected %" PRIu64
+               " and %" PRIu64,
+               call, got.refusal, got.number, refusal, number);
     compare_memory(trial, call);
 }
 
-static uint64_t graph_refusal(const struct trial *trial, size_t plan_length, size_t length, size_t room) {
+static uint64_t graph_refusal(const struct trial *trial, size_t plan_length, size_t length,
+                              size_t room) {
     return plan_length < PLAN_WORDS || length < room ? 11 : trial->shape.formed ? 0 : 12;
 }
 
@@ -143,7 +214,8 @@ void try_items(struct trial *trial, size_t plan_length, size_t items_length) {
     memcpy(expected, lent, sizeof lent);
     for (int a = 0; refusal == 0 && a < graph->items; a++) {
         const struct item *item = &graph->item[a];
-        expected[GUARD + a] = (uint16_t)(item->rank * 512 + (int)item->kind * 128 + (item->kind == TASK ? item->task : item->region));
+        expected[GUARD + a] = (uint16_t)(item->rank * 512 + (int)item->kind * 128 +
+                                         (item->kind == TASK ? item->task : item->region));
     }
     taskiter_number got = taskiter_items(trial->lent.plan, plan_length, lent + GUARD, items_length);
     compare_number(trial, "items", refusal, refusal == 0 ? (uint64_t)graph->items : 0, got);
@@ -162,6 +234,7 @@ void try_edges(struct trial *trial, size_t plan_length, size_t edges_length) {
         expected[GUARD + 3 * e + 2] = (uint32_t)graph->edge[e].distance;
     }
     taskiter_number got = taskiter_edges(trial->lent.plan, plan_length, lent + GUARD, edges_length);
+    change_edge(trial, lent + GUARD, got.number);
     compare_number(trial, "edges", refusal, refusal == 0 ? (uint64_t)graph->edges : 0, got);
     compare_bytes(trial, "the edges", expected, lent, sizeof lent);
 }

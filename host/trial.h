@@ -1,5 +1,6 @@
-/* Calls of the runtime on lent slices, each compared with what the model expects: the answer, and every byte of the slices and their guards. The
-   first difference is told, with the seed and the plan that it was found with, and ends the program with status 1. */
+/* Calls of the runtime on lent slices, each compared with what the model expects: the answer, and
+   every byte of the slices and their guards. The first difference is printed, with the seed and the
+   plan that it was found with, and ends the program with status 1. */
 #ifndef HOST_TRIAL_H
 #define HOST_TRIAL_H
 
@@ -9,12 +10,25 @@
 
 enum { LAST_REFUSAL = 18, ITEM_ROOM = MAX_ITEMS, EDGE_ROOM = 3 * MAX_EDGES };
 
-/* One group of calls: where it stands, how its calls were answered, and the memory lent beside the memory expected. The shape is that of the
-   plan's words, which are the same in both. */
+/* What a control run changes once, between the runtime and the comparison: an answer, a word of the
+   lent state after a call, an edge, or the line that reading answers. */
+enum change { NO_CHANGE, CHANGED_ANSWER, CHANGED_WORD, CHANGED_EDGE, CHANGED_LINE, CHANGES };
+
+/* The change is made when so many chances for it have passed. */
+struct control {
+    enum change change;
+    long chances;
+    struct rng rng;
+    bool made;
+};
+
+/* One group of calls: where it stands, how its calls were answered, and the memory lent beside the
+   memory expected. The shape is that of the plan's words, which are the same in both. */
 struct trial {
     const char *group;
+    struct control *control;
     uint64_t seed;
-    long number, calls, answered[LAST_REFUSAL + 1];
+    long number, calls, texts, answered[LAST_REFUSAL + 1];
     struct memory lent, expected;
     struct shape shape;
 };
@@ -28,11 +42,12 @@ struct slices {
 
 extern const struct lengths least;
 
-/* Tells a difference, in the form of printf, and ends the program. */
-void differ(const struct trial *trial, const char *form, ...) __attribute__((noreturn, format(printf, 2, 3)));
+/* Prints a difference, in the form of printf, and ends the program. */
+void differ(const struct trial *trial, const char *form, ...)
+    __attribute__((noreturn, format(printf, 2, 3)));
 
-/* Fills all of the memory by lot. */
-void fill_memory(struct trial *trial, struct lot *lot);
+/* Fills all of the memory at random. */
+void fill_memory(struct trial *trial, struct rng *rng);
 
 /* Puts the plan's words into both memories, and finds their shape. */
 void put_plan(struct trial *trial, const struct plan *plan);
@@ -44,16 +59,21 @@ void put_word(struct trial *trial, int word, uint64_t value);
 void count_answer(struct trial *trial, uint64_t refusal);
 
 /* Makes a call of the runtime and answers what it answers. */
-struct answer runtime_call(enum call call, struct slices slices, struct lengths lengths, uint64_t number);
+struct answer runtime_call(enum call call, struct slices slices, struct lengths lengths,
+                           uint64_t number);
 
 /* Compares a runtime's answer with the model's. */
-void compare_answer(struct trial *trial, enum call call, uint64_t number, struct answer expected, struct answer got);
+void compare_answer(struct trial *trial, enum call call, uint64_t number, struct answer expected,
+                    struct answer got);
 
 /* Makes a call on the memories and compares them; gives the answer of both. */
-struct answer try_call(struct trial *trial, enum call call, struct lengths lengths, uint64_t number);
+struct answer try_call(struct trial *trial, enum call call, struct lengths lengths,
+                       uint64_t number);
 
-/* Reads a text into the memories' plans and compares; the shape is that of the new words where the text is accepted. */
-struct reading try_read(struct trial *trial, const uint8_t *text, size_t length, size_t plan_length);
+/* Reads a text into the memories' plans and compares; the shape is that of the new words where the
+   text is accepted. */
+struct reading try_read(struct trial *trial, const uint8_t *text, size_t length,
+                        size_t plan_length);
 
 /* Asks for the items and for the edges, into slices of their own that are compared whole. */
 void try_items(struct trial *trial, size_t plan_length, size_t items_length);

@@ -1,8 +1,10 @@
-/* A host with workers: workers [NUMBER [FILE|- [SEED]]], 16 if no number is given. An item runs on a worker of its rank, one at a time, and
-   finishes after some ticks drawn by lot; so many run at once, and finishes come in any order. Each rank has a queue of items to try. An item whose
-   start is refused leaves it, and comes back when something that it waits for has finished, by the edges. The calls come one after another. Prints
-   the steps taken, the tries refused, the most items that ran at once, the ticks and the values. Exit status 0 where each word and value
-   is the unrolled loop's. */
+/* A host with workers: workers [NUMBER [FILE|- [SEED]]], 16 if no number is given. An item runs on
+   a worker of its rank, one at a time, and finishes after a random number of ticks; so many run at
+   once, and finishes come in any order. Each rank has a queue of items to try. An item whose start
+   is refused leaves it, and comes back when something that it waits for has finished, by the edges.
+   The calls come one after another. Prints the steps taken, the tries refused, the most items that
+   ran at once, the ticks and the values. Exit status 0 where each word and value is the unrolled
+   loop's. */
 #include <stdio.h>
 #include <stdlib.h>
 
@@ -21,7 +23,7 @@ struct queue {
 };
 
 static struct play play;
-static struct lot lot;
+static struct rng rng;
 static struct worker worker[MOST_WORKERS];
 static struct queue queue[MAX_RANKS];
 static bool queued[TASKITER_MAX_ITEMS];
@@ -50,7 +52,8 @@ static void put_successors(int item) {
             put_item((int)play.edge[3 * e + 1]);
 }
 
-/* Whether a worker serves a rank: with fewer workers than ranks one serves several, with more several serve one. */
+/* Whether a worker serves a rank: with fewer workers than ranks one serves several, with more
+   several serve one. */
 static bool serves(int w, int rank) {
     return rank % workers == w % play.plan.ranks;
 }
@@ -61,14 +64,15 @@ static void seek_item(int w) {
         while (serves(w, q) && queue[q].length > 0) {
             int item = take_item(&queue[q]);
             if (play_start(&play, item) == 0) {
-                worker[w] = (struct worker){item, 1 + draw_below(&lot, MOST_TICKS)};
+                worker[w] = (struct worker){item, 1 + draw_below(&rng, MOST_TICKS)};
                 most_running = ++running > most_running ? running : most_running;
                 return;
             }
         }
 }
 
-/* One tick of a worker: it seeks an item, or goes on with the one it has and finishes it in time. */
+/* One tick of a worker: it seeks an item, or goes on with the one it has and finishes it in
+   time. */
 static void work(int w) {
     if (worker[w].item == IDLE) {
         seek_item(w);
@@ -80,7 +84,8 @@ static void work(int w) {
     }
 }
 
-/* Runs ticks until all steps are taken and answers their number. In each tick the workers come from one drawn by lot on. */
+/* Runs ticks until all steps are taken and answers their number. In each tick the workers come from
+   a random one on. */
 static long run_ticks(void) {
     long ticks = 0, steps = -1;
     for (; play.steps < play_length(&play); ticks++) {
@@ -89,7 +94,7 @@ static long run_ticks(void) {
             exit(1);
         }
         steps = play.steps;
-        int from = draw_below(&lot, workers);
+        int from = draw_below(&rng, workers);
         for (int k = 0; k < workers; k++)
             work((from + k) % workers);
     }
@@ -98,14 +103,16 @@ static long run_ticks(void) {
 
 int main(int argc, char **argv) {
     workers = argc > 1 ? atoi(argv[1]) : DEFAULT_WORKERS;
-    lot = lot_of(argc > 3 ? strtoull(argv[3], NULL, 10) : 1, 0);
-    if (workers < 1 || workers > MOST_WORKERS || !play_begin(&play, argc > 2 ? argv[2] : NULL, &lot))
+    rng = rng_of(argc > 3 ? strtoull(argv[3], NULL, 10) : 1, 0);
+    if (workers < 1 || workers > MOST_WORKERS ||
+        !play_begin(&play, argc > 2 ? argv[2] : NULL, &rng))
         return 1;
     for (int w = 0; w < workers; w++)
         worker[w].item = IDLE;
     for (int a = 0; a < play.items; a++)
         put_item(a);
     long ticks = run_ticks();
-    printf("items %d\nsteps %ld\nrefused tries %ld\nat once %d\nticks %ld\n", play.items, play.steps, play.refused, most_running, ticks);
+    printf("items %d\nsteps %ld\nrefused tries %ld\nat once %d\nticks %ld\n", play.items,
+           play.steps, play.refused, most_running, ticks);
     return play_end(&play);
 }

@@ -1,36 +1,80 @@
 // The lines of the script.
-use crate::calls::LENT_COUNTS;
-use crate::calls::LENT_PLAN;
-use crate::calls::LENT_VALUES;
-use crate::calls::TEXT_END;
-use crate::calls::call_in;
-use crate::calls::print;
-use crate::calls::read_plan;
+use crate::lent::LENT_COUNTS;
+use crate::lent::LENT_PLAN;
+use crate::lent::LENT_VALUES;
+use crate::lent::TEXT_END;
+use crate::lent::call_in;
+use crate::lent::print;
+use crate::lent::print_word;
+use crate::lent::read_plan;
 use crate::numbers::ahead;
 use crate::numbers::behind;
 use crate::numbers::byte_at;
+use crate::numbers::fill;
 use crate::numbers::next_field;
 use crate::numbers::number_at;
 use crate::numbers::set_byte;
 use crate::numbers::set_count;
 use crate::numbers::set_word;
 use crate::numbers::word_at;
+use plan::state::Count;
 
 // The byte of a plan text that a byte of the script stands for.
 fn text_byte(byte: u8) -> u8 {
     match byte {
         b' ' => b'\t',
         b'/' => b'\n',
+        b'~' => b' ',
+        b'^' => b'\r',
+        b'!' => 0,
+        b'%' => 200,
         _ => byte,
     }
 }
 
-// Puts script[first..end] behind the plan text that ends at `at`, and answers where it ends then.
-fn put_part(text: &mut [u8], at: usize, script: &[u8], first: usize, end: usize) -> usize {
+// A function that puts something puts it behind the plan text, which ends at `at`, and answers
+// where the text ends then.
+fn put_digits(text: &mut [u8], at: usize, digits: &[u8]) -> usize {
+    let mut to = at;
+    for i in 0..digits.len() {
+        set_byte(text, to, byte_at(digits, i));
+        to = behind(to, 1);
+    }
+    to
+}
+
+fn put_number(text: &mut [u8], at: usize, n: u64) -> usize {
+    let mut digits = [0u8; 20];
+    let k = io::decimal(n, &mut digits);
+    put_digits(text, at, &digits[..k])
+}
+
+fn put_byte(text: &mut [u8], at: usize, byte: u8) -> usize {
+    set_byte(text, at, text_byte(byte));
+    behind(at, 1)
+}
+
+// Puts what a byte of the script stands for, with `turn` turns before this one.
+fn put_glyph(text: &mut [u8], at: usize, byte: u8, turn: u64) -> usize {
+    match byte {
+        b'#' => put_number(text, at, turn),
+        b'$' => put_number(text, at, std::num::wrapping_add_u64(turn, 1)),
+        _ => put_byte(text, at, byte),
+    }
+}
+
+// Puts script[first..end].
+fn put_part(
+    text: &mut [u8],
+    at: usize,
+    script: &[u8],
+    first: usize,
+    end: usize,
+    turn: u64,
+) -> usize {
     let mut to = at;
     for i in first..end {
-        set_byte(text, to, text_byte(byte_at(script, i)));
-        to = behind(to, 1);
+        to = put_glyph(text, to, byte_at(script, i), turn);
     }
     to
 }
@@ -44,8 +88,8 @@ fn put_times(
     times: u64,
 ) -> usize {
     let mut to = at;
-    for _ in 0..times {
-        to = put_part(text, to, script, first, end);
+    for turn in 0..times {
+        to = put_part(text, to, script, first, end, turn);
     }
     to
 }
@@ -81,7 +125,8 @@ fn begins(script: &[u8], at: usize) -> bool {
     (at == 0) | (byte_at(script, std::num::wrapping_sub_usize(at, 1)) == b'\n')
 }
 
-// The numbers from the first of a line on. A line that has fewer than three does not use those of the next.
+// The numbers from the first of a line on. A line that has fewer than three does not use those of
+// the next.
 struct Fields {
     first: u64,
     second: u64,
@@ -105,17 +150,19 @@ fn lend(room: &mut [u64], fields: Fields) {
     set_word(room, LENT_VALUES, fields.third);
 }
 
-// A line that changes something lent, or makes a call.
+// A line that changes or shows something lent, or makes a call.
 fn play_numbers(
     letter: u8,
     room: &mut [u64],
-    counts: &mut [u32],
+    counts: &mut [Count],
     values: &mut [u64],
     fields: Fields,
 ) {
     match letter {
         b'l' => lend(room, fields),
         b'w' => set_word(room, fields.first as usize, fields.second),
+        b'j' => fill(room, LENT_PLAN, fields.first),
+        b'a' => print_word(room, fields.first),
         b'c' => set_count(counts, fields.first as usize, fields.second),
         _ => call_in(letter, room, counts, values, fields.first),
     }
@@ -126,7 +173,7 @@ fn play_line(
     script: &[u8],
     text: &mut [u8],
     room: &mut [u64],
-    counts: &mut [u32],
+    counts: &mut [Count],
     values: &mut [u64],
     at: usize,
 ) {
@@ -148,7 +195,7 @@ pub(crate) fn play(
     script: &[u8],
     text: &mut [u8],
     room: &mut [u64],
-    counts: &mut [u32],
+    counts: &mut [Count],
     values: &mut [u64],
 ) {
     for at in 0..script.len() {

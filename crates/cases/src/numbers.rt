@@ -1,5 +1,7 @@
-// Bytes, words and counts at an offset, and the numbers of a line. What is read beyond the end of a slice is 0, and nothing is stored there, so that no
-// caller has to know how long a slice is; sums wrap.
+// Bytes, words and counts at an offset, and the numbers of a line. What is read beyond the end of a
+// slice is 0, and nothing is stored there, so that no caller has to know how long a slice is; sums
+// wrap.
+use plan::state::Count;
 
 pub(crate) fn byte_at(text: &[u8], at: usize) -> u8 {
     if at < text.len() {
@@ -27,6 +29,13 @@ pub(crate) fn set_word(room: &mut [u64], at: usize, word: u64) {
     }
 }
 
+// Word i becomes i + n, for each i below `end`.
+pub(crate) fn fill(room: &mut [u64], end: usize, n: u64) {
+    for i in 0..end {
+        set_word(room, i, std::num::wrapping_add_u64(i as u64, n));
+    }
+}
+
 fn wide(x: u32) -> u64 {
     x as u64
 }
@@ -38,9 +47,9 @@ pub(crate) fn count_at(counts: &[u32], at: usize) -> u64 {
     0
 }
 
-pub(crate) fn set_count(counts: &mut [u32], at: usize, count: u64) {
+pub(crate) fn set_count(counts: &mut [Count], at: usize, count: u64) {
     if at < counts.len() {
-        counts[at] = (count % 4294967296) as u32;
+        counts[at] = (count % 4294967296) as Count;
     }
 }
 
