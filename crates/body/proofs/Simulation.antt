@@ -3,7 +3,8 @@ use Prim.Native.Nat.{ℕ, zero, suc, _+_, _-_, _≤_, _<_}
 use mathlib.Core.Path.{_≡_, refl, sym, _∙_, ap, subst}
 use mathlib.Core.Bool.{true, false}
 use mathlib.Core.Logic.{_⊎_, inl, inr, ⊎-elim}
-use mathlib.Core.List.{List, [], _∷_, _++_, map, flatMap, head-eq-of-cons-eq, tail-eq-of-cons-eq, List·Memᴰ as In, List·Memᴰ·head as here, List·Memᴰ·tail as there, List·Memᴰ·not-nil as in-nil, List·Memᴰ·cases-cons as in-cases}
+use mathlib.Core.List.{List, [], _∷_, _++_, map, flatMap, head-eq-of-cons-eq, tail-eq-of-cons-eq}
+use mathlib.Core.List.{List·Memᴰ as In, List·Memᴰ·head as here, List·Memᴰ·tail as there, List·Memᴰ·not-nil as in-nil, List·Memᴰ·cases-cons as in-cases}
 use native.Mathlib.Decide.{ℕ-discrete}
 use native.Mathlib.Omega.{arith}
 use lib.ListN.{length, drop}
@@ -160,7 +161,8 @@ module _ (B : Body) (F : Fits B) (p : ℕ) (lp : p < B .passes) (t : ℕ) (lt : 
             | no z ↦ receive-other (B .rank t) h (F .rank-below t lt) (F .writes-below t h lt w) z ∙ M .own h w
           ];
           copies = λ r h lr lh v. elim (ℕ-discrete (copy B r h) (copy B q g)) [
-            | yes z ↦ inl (ap (storeAt (system B) p (suc (suc k))) z ∙ (receive-copy ∙ (sym (cells-wrote B p t g m) ∙ ap (cellsAt B p (suc t)) (sym (copies-apart B r h q g lh (F .writes-below t g lt m) z .1)))))
+            | yes z ↦ inl (ap (storeAt (system B) p (suc (suc k))) z
+                ∙ (receive-copy ∙ (sym (cells-wrote B p t g m) ∙ ap (cellsAt B p (suc t)) (sym (copies-apart B r h q g lh (F .writes-below t g lt m) z .1)))))
             | no z ↦ ⊎-elim (λ w. inl (receive-other r h lr lh z ∙ w)) (λ w. inr (left r h z (in-cases w))) (M .copies r h lr lh v)
           ];
           words = words-next B p (suc k) (receive t g q) er receive-word (words-next B p k (send t g q) es send-word (M .words));

@@ -57,7 +57,10 @@ unfolding itemList flatMap range gather transfersOf transferred wanted anyBelow 
 items = refl
 
 edge-list : edges (system twoRanks) ≡ tenEdges
-unfolding itemList flatMap range gather transfersOf transferred wanted anyBelow source orElse lastBefore mem itemAt slot copy readsOf writesOf edges edgesBetween decide Dec·and true-or-false decLt decLe ℕ-discrete dec-map dec-imp dec-sum dec-then dec-below dec-below-suc dec-some dec-some-cons scan scan-suc last-same last-next last-far last-writer dec-before dec-writes dec-accesses dec-conflict dec-last dec-unwritten dec-through dec-dependence dec-edge
+unfolding itemList flatMap range gather transfersOf transferred wanted anyBelow source orElse lastBefore mem itemAt slot copy readsOf writesOf edges
+    edgesBetween decide Dec·and true-or-false decLt decLe ℕ-discrete dec-map dec-imp dec-sum dec-then dec-below dec-below-suc dec-some dec-some-cons
+    scan scan-suc last-same last-next last-far last-writer dec-before dec-writes dec-accesses dec-conflict dec-last dec-unwritten dec-through
+    dec-dependence dec-edge
 edge-list = refl
 
 ten-edges : (a b d : ℕ) → Edge (system twoRanks) a b d ↔ In (a, b, d) tenEdges
@@ -68,7 +71,8 @@ unfolding allSteps sumBelow itemList flatMap range gather transfersOf transferre
 sixteen = refl
 
 words : map (λ p. map (word (system twoRanks) p) (0 ∷ 1 ∷ 2 ∷ 3 ∷ [])) (0 ∷ 1 ∷ []) ≡ (6 ∷ 6 ∷ 6 ∷ 6 ∷ []) ∷ (7 ∷ 7 ∷ 7 ∷ 13 ∷ []) ∷ []
-unfolding wordOn execute executeTo storeOf storeAt word put decLt itemList flatMap range gather transfersOf transferred wanted anyBelow source orElse lastBefore mem itemAt slot copy readsOf writesOf computeOf initial
+unfolding wordOn execute executeTo storeOf storeAt word put decLt itemList flatMap range gather transfersOf transferred wanted anyBelow source orElse
+    lastBefore mem itemAt slot copy readsOf writesOf computeOf initial
 words = refl
 
 loop-words : map (λ p. map (loopWord twoRanks p) (0 ∷ 1 ∷ [])) (0 ∷ 1 ∷ []) ≡ (6 ∷ 6 ∷ []) ∷ (7 ∷ 13 ∷ []) ∷ []
@@ -81,11 +85,17 @@ finals = refl
 
 -- with the test of acceptance that computes, and so with every other
 answered : replies (system twoRanks) (decides (system twoRanks)) (opening (system twoRanks)) calls ≡ map (λ (r : Call × Option ℕ). r .1) trace
-unfolding replies reply step opening startState finishState wordOn update put itemList flatMap range gather transfersOf transferred wanted anyBelow source orElse lastBefore mem itemAt slot copy readsOf writesOf computeOf initial Dec·and true-or-false decLt decLe ℕ-discrete dec-map dec-imp dec-sum dec-then dec-below dec-below-suc dec-some dec-some-cons scan scan-suc last-same last-next last-far last-writer dec-before dec-writes dec-accesses dec-conflict dec-last dec-unwritten dec-through dec-dependence dec-edge dec-met dec-ready dec-start dec-finish
+unfolding replies reply step opening startState finishState wordOn update put itemList flatMap range gather transfersOf transferred wanted anyBelow
+    source orElse lastBefore mem itemAt slot copy readsOf writesOf computeOf initial Dec·and true-or-false decLt decLe ℕ-discrete dec-map dec-imp
+    dec-sum dec-then dec-below dec-below-suc dec-some dec-some-cons scan scan-suc last-same last-next last-far last-writer dec-before dec-writes
+    dec-accesses dec-conflict dec-last dec-unwritten dec-through dec-dependence dec-edge dec-met dec-ready dec-start dec-finish
 answered = refl
 
 results : map (resultOf twoRanks (run (system twoRanks) (decides (system twoRanks)) (opening (system twoRanks)) calls)) (0 ∷ 1 ∷ []) ≡ 7 ∷ 13 ∷ []
-unfolding resultOf run step opening startState finishState wordOn update put itemList flatMap range gather transfersOf transferred wanted anyBelow source orElse lastBefore mem itemAt slot copy readsOf writesOf computeOf initial Dec·and true-or-false decLt decLe ℕ-discrete dec-map dec-imp dec-sum dec-then dec-below dec-below-suc dec-some dec-some-cons scan scan-suc last-same last-next last-far last-writer dec-before dec-writes dec-accesses dec-conflict dec-last dec-unwritten dec-through dec-dependence dec-edge dec-met dec-ready dec-start dec-finish
+unfolding resultOf run step opening startState finishState wordOn update put itemList flatMap range gather transfersOf transferred wanted anyBelow
+    source orElse lastBefore mem itemAt slot copy readsOf writesOf computeOf initial Dec·and true-or-false decLt decLe ℕ-discrete dec-map dec-imp
+    dec-sum dec-then dec-below dec-below-suc dec-some dec-some-cons scan scan-suc last-same last-next last-far last-writer dec-before dec-writes
+    dec-accesses dec-conflict dec-last dec-unwritten dec-through dec-dependence dec-edge dec-met dec-ready dec-start dec-finish
 results = refl
 
 pub two-ranks : TwoRanks

@@ -21,7 +21,8 @@ use Rattle.body.specs.Places.{slot, copy, system}
 use Rattle.edges.specs.Touch.{touchOn}
 use Rattle.edges.specs.Tests.{written, writtenBetween, crossed, distance, kindAt, rankAt, paired, copyEdge, edgeTest, metTest, waitsTest}
 use Rattle.edges.specs.Rule.{WaitsMet}
-use Rattle.edges.proofs.Touches.{Place, of-copy, of-send, of-receive, place-of, rank-below, touch-most, writes-touch, touch-writes, accesses-touch, touch-accesses, touch-region, send-kind, receive-kind, send-slot, receive-slot, slot-users}
+use Rattle.edges.proofs.Touches.{Place, of-copy, of-send, of-receive, place-of, rank-below, touch-most, writes-touch, touch-writes, accesses-touch, touch-accesses, touch-region}
+use Rattle.edges.proofs.Touches.{send-kind, receive-kind, send-slot, receive-slot, slot-users}
 
 pub distance-later : (a b : ℕ) → a < b → distance a b ≡ 0
 distance-later a b l = rw (lt-ltb a b l)

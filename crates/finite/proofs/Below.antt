@@ -260,7 +260,7 @@ unfolding countBelow
 count-without zero x p = omega arith
 count-without (suc n) x p =
     elim (ℕ-discrete n x) [
-      | yes e ↦ (let q : countBelow n p ≡ countBelow n (λ k. p k && not (eqb k x)) = count-ext n p (λ k. p k && not (eqb k x)) (λ k l. apart k (λ z. omega arith)) in omega (arith, q, one-at-most (p n)))
+      | yes e ↦ omega (arith, count-ext n p (λ k. p k && not (eqb k x)) (λ k l. apart k (λ z. omega arith)), one-at-most (p n))
       | no e ↦ (let q : _≡_ {A = ℕ} (cond (p n) 1 0) (cond (p n && not (eqb n x)) 1 0) = ap (λ (b : Bool). cond b 1 0) (apart n e) in omega (arith, count-without n x p))
     ]
   where

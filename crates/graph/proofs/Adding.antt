@@ -1,4 +1,5 @@
--- Laws of Added. Those that begin with collect are a loop's that adds f 0, f 1, ..: before its first turn, over a turn, and after its last.
+-- Laws of Added. Those that begin with collect are a loop's that adds f 0, f 1, ..: before its
+-- first turn, over a turn, and after its last.
 use Prim.Native.Nat.{ℕ, _+_, _≤_, _<_}
 use mathlib.Core.Path.{_≡_, refl, sym, _∙_, ap}
 use mathlib.Core.List.{List, [], _∷_, _++_, append-nil, append-assoc}
@@ -36,8 +37,12 @@ add-two T U S n m r X Y p q =
       size = q .size ∙ p .size;
     }
 
-pub add-cons : (T U S : List ℕ) (n m r x : ℕ) (Y : List ℕ) → Added T U n m (x ∷ []) → Added U S m r Y → Added T S n r (x ∷ Y)
-add-cons T U S n m r x Y p q = add-two T U S n m r (x ∷ []) Y p q
+-- a number that is put as x
+pub add-cons : (T U S : List ℕ) (n m r x a : ℕ) (Y : List ℕ) → x ≡ a → Added T U n m (x ∷ []) → Added U S m r Y → Added T S n r (a ∷ Y)
+add-cons T U S n m r x a Y e p q = rw e at (add-two T U S n m r (x ∷ []) Y p q)
+
+pub add-pair : (T U S : List ℕ) (n m r x y a b : ℕ) → x ≡ a → y ≡ b → Added T U n m (x ∷ []) → Added U S m r (y ∷ []) → Added T S n r (a ∷ b ∷ [])
+add-pair T U S n m r x y a b e f p q = add-cons T U S n m r x a (b ∷ []) e p (rw f at q)
 
 -- three numbers, stored as x, y and z
 pub add-three : (T : List ℕ) (n x y z a b d : ℕ) → n + 3 ≤ length T → x ≡ a → y ≡ b → z ≡ d
@@ -49,8 +54,8 @@ add-three T n x y z a b d h e f g =
     let s : length S ≡ length U = length-set U (n + 1) y in
     let k : n + 2 + 1 ≡ n + 3 = omega arith in
     let j : n + 1 + 1 ≡ n + 2 = omega arith in
-    add-cons T U (set S (n + 2) z) n (n + 1) (n + 3) a (b ∷ d ∷ []) (add-store T n x a (omega arith) e)
-    (add-cons U S (set S (n + 2) z) (n + 1) (n + 2) (n + 3) b (d ∷ []) (rw j at (add-store U (n + 1) y b (omega arith) f)) (rw k at (add-store S (n + 2) z d (omega arith) g)))
+    add-two T U (set S (n + 2) z) n (n + 1) (n + 3) (a ∷ []) (b ∷ d ∷ []) (add-store T n x a (omega arith) e)
+    (add-pair U S (set S (n + 2) z) (n + 1) (n + 2) (n + 3) b d b d refl refl (rw j at (add-store U (n + 1) y b (omega arith) f)) (rw k at (add-store S (n + 2) z d (omega arith) g)))
 
 pub collect-none : (f : ℕ → List ℕ) (T : List ℕ) (n : ℕ) → Added T T n n (collect 0 f)
 unfolding collect

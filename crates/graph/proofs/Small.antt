@@ -15,6 +15,7 @@ use Rattle.finite.proofs.Lists.{in-gather-from}
 use Rattle.body.specs.Body.{Fits}
 use Rattle.body.specs.Transfers.{transferCount}
 use Rattle.edges.specs.EdgeList.{Small}
+use Rattle.plan.specs.Limits.{maxRegions, maxTransfers}
 use Rattle.plan.specs.Layout.{accessesOf, regionAt, readsOf, writesOf, isRead, isWritten, bodyOf}
 use Rattle.plan.specs.Form.{wordsOk, inForm}
 use Rattle.plan.proofs.Facts.{formed, fits}
@@ -24,9 +25,9 @@ module _ (w : List ℕ) where
   unfolding inForm
   form-words h = and-true (wordsOk w) _ h .0
 
-  pub form-transfers : inForm w ≡ true → transferCount (bodyOf w) ≤ 256
+  pub form-transfers : inForm w ≡ true → transferCount (bodyOf w) ≤ maxTransfers
   unfolding inForm
-  form-transfers h = leb-true (transferCount (bodyOf w)) 256 (and-true (wordsOk w) _ h .1)
+  form-transfers h = leb-true (transferCount (bodyOf w)) maxTransfers (and-true (wordsOk w) _ h .1)
 
   -- a region of those that p chooses is that of an access
   chosen-access : (i g : ℕ) (p : ℕ → Bool) → mem g (gather (accessesOf w i) p (regionAt w i)) ≡ true →
@@ -36,11 +37,11 @@ module _ (w : List ℕ) where
       (r .0, r .1, refl, sym (r .3))
 
   -- a task touches no more regions than it has accesses
-  touched-few : (i : ℕ) → countBelow 128 (λ g. mem g (writesOf w i) || mem g (readsOf w i)) ≤ accessesOf w i
+  touched-few : (i : ℕ) → countBelow maxRegions (λ g. mem g (writesOf w i) || mem g (readsOf w i)) ≤ accessesOf w i
   touched-few i =
       omega (
         arith,
-        count-cover 128 (accessesOf w i) (λ g. mem g (writesOf w i) || mem g (readsOf w i)) (λ a. true) (regionAt w i)
+        count-cover maxRegions (accessesOf w i) (λ g. mem g (writesOf w i) || mem g (readsOf w i)) (λ a. true) (regionAt w i)
             (λ g l h. ⊎-elim (chosen-access i g (isWritten w i)) (chosen-access i g (isRead w i)) (or-cases (mem g (writesOf w i)) (mem g (readsOf w i)) h)),
         count-le (λ a. true) (accessesOf w i),
       )

@@ -1,4 +1,5 @@
--- The paper's cases D, E, F and G ("Tried by hand"), and both sides of each limit on the number of reads, computed.
+-- The paper's cases D, E, F and G ("Tried by hand"), and both sides of each limit on the number of
+-- reads, computed.
 use Prim.Native.Nat.{ℕ, _-_, _^_}
 use mathlib.Core.Path.{_≡_, refl}
 use mathlib.Core.Bool.{true, false}

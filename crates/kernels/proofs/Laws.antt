@@ -1,5 +1,5 @@
--- Laws of the kernels. Those that end in -none, -more and -done are a loop's over the reads: before its first turn, over a turn,
--- and after its last.
+-- Laws of the kernels. Those that end in -none, -more and -done are a loop's over the reads: before
+-- its first turn, over a turn, and after its last.
 use Prim.Native.Nat.{ℕ, zero, suc, _+_, _/_, _%_, _^_, _≤_, _<_, max}
 use mathlib.Core.Path.{_≡_, refl}
 use mathlib.Core.Bool.{true, false, cond}

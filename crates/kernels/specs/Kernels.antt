@@ -31,7 +31,8 @@ differenceWord c reads = (readAt reads 0 + (2 ^ 64 - readAt reads 1) + c) % 2 ^ 
 abbrev pub meanWord : List ℕ → ℕ
 meanWord reads = (readAt reads 0 + readAt reads 1 + readAt reads 2 + readAt reads 3) / 4
 
--- the word of kernel k with the constant c and the words read, in record order; 0 where k is no kernel
+-- the word of kernel k with the constant c and the words read, in record order; 0 where k is no
+-- kernel
 unfoldable pub kernelWord : ℕ → ℕ → List ℕ → ℕ
 kernelWord k c reads =
     cond (eqb k 0) c
@@ -41,7 +42,8 @@ kernelWord k c reads =
     (cond (eqb k 4) (largest reads)
     0))))
 
--- kernel k permits n reads: 0 and 1 any, 2 exactly two, 3 exactly four, 4 at least one; no other number is a kernel
+-- kernel k permits n reads: 0 and 1 any, 2 exactly two, 3 exactly four, 4 at least one; no other
+-- number is a kernel
 unfoldable pub suits : ℕ → ℕ → Bool
 suits k n =
     cond (eqb k 0) true

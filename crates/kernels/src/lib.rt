@@ -1,5 +1,5 @@
-// The word that a task computes from the words it reads, and the number of reads that its kernel permits. Which words are read,
-// and what becomes of the computed one, is no matter of this crate.
+// The word that a task computes from the words it reads, and the number of reads that its kernel
+// permits. Which words are read, and what becomes of the computed one, is no matter of this crate.
 ghost use mathlib.Core.Path.{_≡_};
 ghost use Prim.Native.Nat.{_+_, _-_, _/_, _%_, _^_, max};
 ghost use Rattle.kernels.specs.Kernels.{readAt, sumWord, differenceWord, meanWord, largest, kernelWord, suits};
@@ -38,8 +38,8 @@ fn difference_word(c: u64, reads: &[u64]) -> u64
     difference(read_at(reads, 0), read_at(reads, 1), c)
 }
 
-// A quarter of the exact sum of four words, rounded down. The sum itself may not fit in a word: the quarters and the remainders are
-// summed apart.
+// A quarter of the exact sum of four words, rounded down. The sum itself may not fit in a word: the
+// quarters and the remainders are summed apart.
 fn quarter(a: u64, b: u64, c: u64, d: u64) -> u64
     ensures { λ r. ⌜ r ≡ (a + b + c + d) / 4 ⌝ }
 {
@@ -78,8 +78,8 @@ fn largest_word(reads: &[u64]) -> u64
     top
 }
 
-// The word of a task, by its kernel's number, its constant c and the words it reads, in record order. A read that is not there
-// counts as 0, and where the number is no kernel's the word is 0.
+// The word of a task, by its kernel's number, its constant c and the words it reads, in record
+// order. A read that is not there counts as 0, and where the number is no kernel's the word is 0.
 pub fn kernel_word(kernel: u64, c: u64, reads: &[u64]) -> u64
     ensures { λ r. ⌜ r ≡ kernelWord kernel c (now (reads .entry)) ⌝ }
 {

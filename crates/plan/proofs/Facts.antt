@@ -1,5 +1,5 @@
 -- What words in form say as numbers, and that the body which they hold fits.
-use Prim.Native.Nat.{ℕ, _+_, _*_, _≤_, _<_}
+use Prim.Native.Nat.{ℕ, _+_, _≤_, _<_}
 use mathlib.Core.Path.{_≡_, sym}
 use mathlib.Core.Bool.{Bool, true, false, not, _&&_, _||_, cond, and-eq-true-iff}
 use mathlib.Core.List.{List}
@@ -16,34 +16,35 @@ use Rattle.finite.proofs.Members.{mem-in, distinct-gather}
 use Rattle.finite.proofs.Lists.{in-gather-from}
 use Rattle.kernels.specs.Kernels.{suits}
 use Rattle.body.specs.Body.{Fits}
-use Rattle.plan.specs.Layout.{at, passesOf, ranksOf, regionsOf, tasksOf, startingOf, rankOf, kernelOf, accessesOf, accessAt, regionAt, isRead, isWritten, bodyOf}
+use Rattle.plan.specs.Limits.{maxPasses, maxRanks, maxRegions, maxTasks, maxAccesses, maxKernel}
+use Rattle.plan.specs.Layout.{at, passesOf, ranksOf, regionsOf, tasksOf, startingOf, rankOf, kernelOf, accessesOf, accessAt, regionAt, isRead, isWritten, bodyOf, taskWords, accessEnd, rankIndex}
 use Rattle.plan.specs.Form.{countsOk, valueOk, accessOk, restOk, usedOk, unusedOk, taskOk, wordsOk}
 
 -- what is known of task i, one that the plan has
 pub record Used (w : List ℕ) (i : ℕ) : Type 0 where
   pub rank-below : rankOf w i < ranksOf w
-  pub rank-most : rankOf w i < 16
-  pub kernel-most : kernelOf w i ≤ 4
-  pub accesses-most : accessesOf w i ≤ 8
-  pub access-below : (a : ℕ) → a < accessesOf w i → accessAt w i a < 384
+  pub rank-most : rankOf w i < maxRanks
+  pub kernel-most : kernelOf w i ≤ maxKernel
+  pub accesses-most : accessesOf w i ≤ maxAccesses
+  pub access-below : (a : ℕ) → a < accessesOf w i → accessAt w i a < accessEnd
   pub region-below : (a : ℕ) → a < accessesOf w i → regionAt w i a < regionsOf w
   -- no two accesses of one region
   pub apart : (a b : ℕ) → a < accessesOf w i → b < accessesOf w i → regionAt w i a ≡ regionAt w i b → a ≡ b
   pub suited : suits (kernelOf w i) (countBelow (accessesOf w i) (isRead w i)) ≡ true
-  pub rest-zero : (a : ℕ) → accessesOf w i ≤ a → a < 8 → accessAt w i a ≡ 0
+  pub rest-zero : (a : ℕ) → accessesOf w i ≤ a → a < maxAccesses → accessAt w i a ≡ 0
 
 -- what is known of the words
 pub record Formed (w : List ℕ) : Type 0 where
-  pub passes-most : passesOf w ≤ 1000000
+  pub passes-most : passesOf w ≤ maxPasses
   pub ranks-least : 1 ≤ ranksOf w
-  pub ranks-most : ranksOf w ≤ 16
+  pub ranks-most : ranksOf w ≤ maxRanks
   pub regions-least : 1 ≤ regionsOf w
-  pub regions-most : regionsOf w ≤ 128
+  pub regions-most : regionsOf w ≤ maxRegions
   pub tasks-least : 1 ≤ tasksOf w
-  pub tasks-most : tasksOf w ≤ 128
-  pub value-zero : (g : ℕ) → regionsOf w ≤ g → g < 128 → startingOf w g ≡ 0
+  pub tasks-most : tasksOf w ≤ maxTasks
+  pub value-zero : (g : ℕ) → regionsOf w ≤ g → g < maxRegions → startingOf w g ≡ 0
   pub used : (i : ℕ) → i < tasksOf w → Used w i
-  pub unused : (i j : ℕ) → tasksOf w ≤ i → i < 128 → j < 12 → at w (132 + 12 * i + j) ≡ 0
+  pub unused : (i j : ℕ) → tasksOf w ≤ i → i < maxTasks → j < taskWords → at w (rankIndex i + j) ≡ 0
 
 -- the parts of a conjunction
 both : (a b : Bool) → (a && b) ≡ true → (a ≡ true) × (b ≡ true)
@@ -56,9 +57,9 @@ other false b h e = h
 
 module _ (w : List ℕ) where
   access-facts : (i a : ℕ) → accessOk w i a ≡ true →
-      (accessAt w i a < 384) × (regionAt w i a < regionsOf w) × ((b : ℕ) → b < a → regionAt w i b ≡ regionAt w i a → ⊥)
+      (accessAt w i a < accessEnd) × (regionAt w i a < regionsOf w) × ((b : ℕ) → b < a → regionAt w i b ≡ regionAt w i a → ⊥)
   access-facts i a h =
-      let u = both (ltb (accessAt w i a) 384) _ h in
+      let u = both (ltb (accessAt w i a) accessEnd) _ h in
       let v = both (ltb (regionAt w i a) (regionsOf w)) _ (u .1) in (
         ltb-true _ _ (u .0),
         ltb-true _ _ (v .0),
@@ -77,11 +78,11 @@ module _ (w : List ℕ) where
             ]
       ]
 
-  used-facts : (i : ℕ) → ranksOf w ≤ 16 → usedOk w i ≡ true → Used w i
+  used-facts : (i : ℕ) → ranksOf w ≤ maxRanks → usedOk w i ≡ true → Used w i
   used-facts i m h =
       let r = both (ltb (rankOf w i) (ranksOf w)) _ h in
-      let k = both (leb (kernelOf w i) 4) _ (r .1) in
-      let n = both (leb (accessesOf w i) 8) _ (k .1) in
+      let k = both (leb (kernelOf w i) maxKernel) _ (r .1) in
+      let n = both (leb (accessesOf w i) maxAccesses) _ (k .1) in
       let a = both (allBelow (accessesOf w i) (accessOk w i)) _ (n .1) in
       let s = both (suits (kernelOf w i) (countBelow (accessesOf w i) (isRead w i))) (restOk w i) (a .1) in
       let each : (b : ℕ) → b < accessesOf w i → accessOk w i b ≡ true = λ b l. all-at (accessOk w i) (accessesOf w i) b (a .0) l in
@@ -95,7 +96,7 @@ module _ (w : List ℕ) where
         region-below = λ b l. access-facts i b (each b l) .1;
         apart = used-apart i each;
         suited = s .0;
-        rest-zero = λ b l u. eqb-true _ _ (other (ltb b (accessesOf w i)) _ (all-at (λ a. ltb a (accessesOf w i) || eqb (accessAt w i a) 0) 8 b (s .1) u) (le-ltb _ _ l));
+        rest-zero = λ b l u. eqb-true _ _ (other (ltb b (accessesOf w i)) _ (all-at (λ a. ltb a (accessesOf w i) || eqb (accessAt w i a) 0) maxAccesses b (s .1) u) (le-ltb _ _ l));
       }
 
   -- the words that `wordsOk` accepts
@@ -103,16 +104,16 @@ module _ (w : List ℕ) where
   unfolding wordsOk
   formed h =
       let c = both (countsOk w) _ h in
-      let v = both (allBelow 128 (valueOk w)) (allBelow 128 (taskOk w)) (c .1) in
-      let p = both (leb (passesOf w) 1000000) _ (c .0) in
+      let v = both (allBelow maxRegions (valueOk w)) (allBelow maxTasks (taskOk w)) (c .1) in
+      let p = both (leb (passesOf w) maxPasses) _ (c .0) in
       let r = both (leb 1 (ranksOf w)) _ (p .1) in
-      let s = both (leb (ranksOf w) 16) _ (r .1) in
+      let s = both (leb (ranksOf w) maxRanks) _ (r .1) in
       let g = both (leb 1 (regionsOf w)) _ (s .1) in
-      let k = both (leb (regionsOf w) 128) _ (g .1) in
-      let t = both (leb 1 (tasksOf w)) (leb (tasksOf w) 128) (k .1) in
-      let ranks : ranksOf w ≤ 16 = leb-true _ _ (s .0) in
-      let tasks : tasksOf w ≤ 128 = leb-true _ _ (t .1) in
-      let task : (i : ℕ) → i < 128 → cond (ltb i (tasksOf w)) (usedOk w i) (unusedOk w i) ≡ true = λ i l. all-at (taskOk w) 128 i (v .1) l in
+      let k = both (leb (regionsOf w) maxRegions) _ (g .1) in
+      let t = both (leb 1 (tasksOf w)) (leb (tasksOf w) maxTasks) (k .1) in
+      let ranks : ranksOf w ≤ maxRanks = leb-true _ _ (s .0) in
+      let tasks : tasksOf w ≤ maxTasks = leb-true _ _ (t .1) in
+      let task : (i : ℕ) → i < maxTasks → cond (ltb i (tasksOf w)) (usedOk w i) (unusedOk w i) ≡ true = λ i l. all-at (taskOk w) maxTasks i (v .1) l in
       record {
         passes-most = leb-true _ _ (p .0);
         ranks-least = leb-true _ _ (r .0);
@@ -121,9 +122,9 @@ module _ (w : List ℕ) where
         regions-most = leb-true _ _ (k .0);
         tasks-least = leb-true _ _ (t .0);
         tasks-most = tasks;
-        value-zero = λ g l u. eqb-true _ _ (other (ltb g (regionsOf w)) _ (all-at (valueOk w) 128 g (v .0) u) (le-ltb _ _ l));
+        value-zero = λ g l u. eqb-true _ _ (other (ltb g (regionsOf w)) _ (all-at (valueOk w) maxRegions g (v .0) u) (le-ltb _ _ l));
         used = λ i l. used-facts i ranks (rw (lt-ltb i (tasksOf w) l) at (task i (omega arith)));
-        unused = λ i j l u m. eqb-true _ _ (all-at (λ j. eqb (at w (132 + 12 * i + j)) 0) 12 j (rw (le-ltb i (tasksOf w) l) at (task i u)) m);
+        unused = λ i j l u m. eqb-true _ _ (all-at (λ j. eqb (at w (rankIndex i + j)) 0) taskWords j (rw (le-ltb i (tasksOf w) l) at (task i u)) m);
       }
 
 -- a region of task i, of those that p chooses, is one of the plan's

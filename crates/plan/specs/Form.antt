@@ -1,5 +1,6 @@
--- When the 1,668 words of a plan are in form, as tests on the words: exactly what reading leaves for some text, which `reading` proves.
-use Prim.Native.Nat.{ℕ, _+_, _*_, _≤_}
+-- When the 1,668 words of a plan are in form, as tests on the words: exactly what reading leaves
+-- for some text, which `reading` proves.
+use Prim.Native.Nat.{ℕ, _+_, _≤_}
 use mathlib.Core.Path.{_≡_}
 use mathlib.Core.Bool.{Bool, cond, not, _&&_, _||_}
 use mathlib.Core.List.{List}
@@ -9,7 +10,7 @@ use Rattle.finite.specs.Below.{allBelow, countBelow}
 use Rattle.kernels.specs.Kernels.{suits}
 use Rattle.body.specs.Transfers.{transferCount}
 use Rattle.plan.specs.Limits.{maxPasses, maxRanks, maxRegions, maxTasks, maxAccesses, maxTransfers, maxKernel, maxWord}
-use Rattle.plan.specs.Layout.{planWords, at, passesOf, ranksOf, regionsOf, tasksOf, startingOf, rankOf, kernelOf, accessesOf, accessAt, regionAt, isRead, bodyOf}
+use Rattle.plan.specs.Layout.{planWords, taskWords, accessEnd, rankIndex, at, passesOf, ranksOf, regionsOf, tasksOf, startingOf, rankOf, kernelOf, accessesOf, accessAt, regionAt, isRead, bodyOf}
 
 -- the words of a plan: so many, of 64 bits
 pub record Words (w : List ℕ) : Type 0 where
@@ -35,7 +36,7 @@ module _ (w : List ℕ) where
   -- access a of task i: a mode, one of the plan's regions, and none that the task has named before
   abbrev pub accessOk : ℕ → ℕ → Bool
   accessOk i a =
-      ltb (accessAt w i a) 384
+      ltb (accessAt w i a) accessEnd
       && (ltb (regionAt w i a) (regionsOf w)
       && allBelow a (λ b. not (eqb (regionAt w i b) (regionAt w i a))))
 
@@ -55,7 +56,7 @@ module _ (w : List ℕ) where
 
   -- one that it has not
   abbrev pub unusedOk : ℕ → Bool
-  unusedOk i = allBelow 12 (λ j. eqb (at w (132 + 12 * i + j)) 0)
+  unusedOk i = allBelow taskWords (λ j. eqb (at w (rankIndex i + j)) 0)
 
   abbrev pub taskOk : ℕ → Bool
   taskOk i = cond (ltb i (tasksOf w)) (usedOk i) (unusedOk i)

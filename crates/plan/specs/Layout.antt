@@ -1,6 +1,7 @@
 -- The words of a plan (docs/LAYOUT.md), and the loop body that they hold.
---   0 passes, 1 ranks, 2 regions, 3 tasks; 4 + g the starting value of region g; 132 + 12 i and on, the words of task i: rank,
---   kernel, constant, number of accesses, and its accesses in record order, each region + 128 × mode (in 0, out 1, inout 2).
+--   0 passes, 1 ranks, 2 regions, 3 tasks; 4 + g the starting value of region g; from 132 + 12 i on
+--   the words of task i: rank, kernel, constant, number of accesses, and its accesses in record
+--   order, each region + 128 × mode (in 0, out 1, inout 2).
 -- What a plan does not use is 0.
 use Prim.Native.Nat.{ℕ, _+_, _*_, _/_, _%_}
 use mathlib.Core.Bool.{Bool, not}
@@ -13,6 +14,38 @@ use Rattle.body.specs.Body.{Body}
 
 abbrev pub planWords : ℕ
 planWords = 1668
+
+-- the words of a task, and where those of task i stand
+abbrev pub taskWords : ℕ
+taskWords = 12
+
+abbrev pub rankIndex : ℕ → ℕ
+rankIndex i = 132 + 12 * i
+
+abbrev pub kernelIndex : ℕ → ℕ
+kernelIndex i = 133 + 12 * i
+
+abbrev pub constantIndex : ℕ → ℕ
+constantIndex i = 134 + 12 * i
+
+abbrev pub accessesIndex : ℕ → ℕ
+accessesIndex i = 135 + 12 * i
+
+abbrev pub accessIndex : ℕ → ℕ → ℕ
+accessIndex i a = 136 + 12 * i + a
+
+-- an access: a number below accessEnd, its region, and whether it reads and writes it
+abbrev pub accessEnd : ℕ
+accessEnd = 384
+
+abbrev pub accessRegion : ℕ → ℕ
+accessRegion access = access % 128
+
+abbrev pub reads : ℕ → Bool
+reads access = not (eqb (access / 128) 1)
+
+abbrev pub writes : ℕ → Bool
+writes access = not (eqb (access / 128) 0)
 
 module _ (w : List ℕ) where
   -- word i
@@ -35,30 +68,30 @@ module _ (w : List ℕ) where
   startingOf g = at (4 + g)
 
   abbrev pub rankOf : ℕ → ℕ
-  rankOf i = at (132 + 12 * i)
+  rankOf i = at (rankIndex i)
 
   abbrev pub kernelOf : ℕ → ℕ
-  kernelOf i = at (133 + 12 * i)
+  kernelOf i = at (kernelIndex i)
 
   abbrev pub constantOf : ℕ → ℕ
-  constantOf i = at (134 + 12 * i)
+  constantOf i = at (constantIndex i)
 
   -- how many accesses task i has
   abbrev pub accessesOf : ℕ → ℕ
-  accessesOf i = at (135 + 12 * i)
+  accessesOf i = at (accessesIndex i)
 
   -- access a of task i, its region, and whether it reads and writes it
   abbrev pub accessAt : ℕ → ℕ → ℕ
-  accessAt i a = at (136 + 12 * i + a)
+  accessAt i a = at (accessIndex i a)
 
   abbrev pub regionAt : ℕ → ℕ → ℕ
-  regionAt i a = accessAt i a % 128
+  regionAt i a = accessRegion (accessAt i a)
 
   abbrev pub isRead : ℕ → ℕ → Bool
-  isRead i a = not (eqb (accessAt i a / 128) 1)
+  isRead i a = reads (accessAt i a)
 
   abbrev pub isWritten : ℕ → ℕ → Bool
-  isWritten i a = not (eqb (accessAt i a / 128) 0)
+  isWritten i a = writes (accessAt i a)
 
   -- the regions that task i reads and writes, in record order
   abbrev pub readsOf : ℕ → List ℕ

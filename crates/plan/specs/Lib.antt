@@ -1,8 +1,5 @@
 pub mod Limits
+pub mod Sizes
 pub mod Layout
+pub mod Code
 pub mod Form
-pub mod Wanted
-pub mod Finds
-pub mod Changes
-pub mod Scan
-pub mod Search

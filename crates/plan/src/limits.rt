@@ -1,4 +1,4 @@
-// The limits of a text and of its plan, as in specs/Limits.antt, and the numbers of a plan's words and masks.
+// The limits of a text and of its plan, as in specs/Limits.antt.
 pub const MAX_BYTES: usize = 32768;
 
 pub const MAX_PASSES: u64 = 1000000;
@@ -16,7 +16,3 @@ pub const MAX_TRANSFERS: u64 = 256;
 pub const MAX_KERNEL: u64 = 4;
 // The largest starting value and constant.
 pub const MAX_WORD: u64 = 18446744073709551615;
-
-pub const PLAN_WORDS: usize = 1668;
-// A mask for each access that a plan can have.
-pub const PLAN_MASKS: usize = 1024;

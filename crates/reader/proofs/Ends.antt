@@ -1,18 +1,17 @@
 -- What follows the last line, and what reading tells of it.
 use Prim.Native.Nat.{ℕ, zero, suc, _≤_, _<_}
 use mathlib.Core.Path.{_≡_, refl, sym, ap, _∙_}
-use mathlib.Core.Bool.{Bool, true, false, not, _&&_}
+use mathlib.Core.Bool.{Bool, true, false, not}
 use mathlib.Core.List.{List, _++_}
-use native.Mathlib.Nat.{le-of-eq}
 use native.Mathlib.Omega.{arith}
 use borrow.Author.Tests.{eq-eqb, lt-ltb, ne-eqb, not-false, not-true}
 use lib.Dec.{leb}
-use lib.ListN.{length, drop, replicate, take}
-use lib.Seq.{take-all}
+use lib.ListN.{length, drop, replicate}
 use Rattle.body.specs.Transfers.{transferCount}
 use Rattle.plan.specs.Form.{inForm, wordsOk}
-use Rattle.plan.specs.Layout.{at, bodyOf}
+use Rattle.plan.specs.Layout.{at, bodyOf, planWords}
 use Rattle.reading.specs.Reading.{Reading, accepted, readOf, refused}
+use Rattle.plan.specs.Limits.{maxBytes}
 use Rattle.reader.specs.Answer.{Reads, leftIn}
 use Rattle.reader.specs.Machine.{endOf}
 use Rattle.reader.specs.Steps.{Tells, Walked, readingOf, wordsLeft}
@@ -50,12 +49,12 @@ end-accepted n p w b e z f h u =
     rw (e, ne-eqb (at w 3) 0 z, form-transfers w b f (h e (omega arith)), not-false b u) (record { answer = refl; words = refl })
 
 -- a refused text leaves zeros
-pub tells-refused : (why line k : ℕ) (left : List ℕ) → k ≡ 1668 → left ≡ replicate k 0 → Tells (refused why line) (record { refusal = why; line = line }) left
+pub tells-refused : (why line k : ℕ) (left : List ℕ) → k ≡ planWords → left ≡ replicate k 0 → Tells (refused why line) (record { refusal = why; line = line }) left
 tells-refused why line k left e h = record { answer = refl; words = h ∙ rw e }
 
-pub tells-long : (text : List ℕ) (k : ℕ) (left : List ℕ) → 32768 < length text → k ≡ 1668 → left ≡ replicate k 0 → Tells (readOf text) (record { refusal = 10; line = 0 }) left
+pub tells-long : (text : List ℕ) (k : ℕ) (left : List ℕ) → maxBytes < length text → k ≡ planWords → left ≡ replicate k 0 → Tells (readOf text) (record { refusal = 10; line = 0 }) left
 unfolding readOf
-tells-long text k left l e h = rw (lt-ltb 32768 (length text) l) (tells-refused 10 0 k left e h)
+tells-long text k left l e h = rw (lt-ltb maxBytes (length text) l) (tells-refused 10 0 k left e h)
 
 -- what the lines led to
 module _ (text words : List ℕ) (walk : Walk) (x : Walked text walk words) where
@@ -65,17 +64,14 @@ module _ (text words : List ℕ) (walk : Walk) (x : Walked text walk words) wher
   pub walk-formed : (p line : ℕ) → walk ≡ Done p line → p ≡ 1 → 1 ≤ at words 3 → wordsOk words ≡ true
   walk-formed p line e k h = x .formed line (e ∙ rw k) h
 
-pub form-whole : (w : List ℕ) (b : Bool) → length w ≡ 1668 → b ≡ (leb 1668 (length w) && inForm (take 1668 w)) → b ≡ inForm w
-form-whole w b e h = h ∙ rw (take-all 1668 w (le-of-eq e), e)
-
 -- the plan slice
-left-whole : (plan : List ℕ) (R : Reading) → leftIn plan R ≡ wordsLeft R ++ drop 1668 plan
+left-whole : (plan : List ℕ) (R : Reading) → leftIn plan R ≡ wordsLeft R ++ drop planWords plan
 left-whole plan (accepted w) = refl
 left-whole plan (refused n line) = refl
 
-pub reads-short : (text plan : List ℕ) → length plan < 1668 → Reads text plan (record { refusal = 11; line = 0 }) plan
+pub reads-short : (text plan : List ℕ) → length plan < planWords → Reads text plan (record { refusal = 11; line = 0 }) plan
 reads-short text plan h = record { short = λ l. (refl, refl); answer = λ l. absurd (omega arith); leaves = λ l. absurd (omega arith) }
 
-pub reads-whole : (text plan words left : List ℕ) (r : Answer) → 1668 ≤ length plan → Tells (readOf text) r words → left ≡ words ++ drop 1668 plan → Reads text plan r left
+pub reads-whole : (text plan words left : List ℕ) (r : Answer) → planWords ≤ length plan → Tells (readOf text) r words → left ≡ words ++ drop planWords plan → Reads text plan r left
 reads-whole text plan words left r h t e =
     record { short = λ l. absurd (omega arith); answer = λ l. t .answer; leaves = λ l. e ∙ rw (t .words) (sym (left-whole plan (readOf text))) }

@@ -1,4 +1,5 @@
--- The words that a reader holds while it reads: those of the plan, with the task that is open as its last.
+-- The words that a reader holds while it reads: those of the plan, with the task that is open as
+-- its last.
 use Prim.Native.Nat.{ℕ}
 use mathlib.Core.List.{List}
 use lib.ListN.{replicate}

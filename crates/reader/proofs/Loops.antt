@@ -1,5 +1,6 @@
--- What the loop over the lines asks: how reading goes on at an offset, and what bounds the words in hand.
-use Prim.Native.Nat.{ℕ, _+_, _-_, _≤_, _<_}
+-- What the loop over the lines asks: how reading goes on at an offset, and what bounds the words in
+-- hand.
+use Prim.Native.Nat.{ℕ, _+_, _≤_, _<_}
 use mathlib.Core.Path.{_≡_, refl, sym, _∙_, subst}
 use mathlib.Core.Bool.{true}
 use mathlib.Core.List.{List, [], _∷_}
@@ -12,10 +13,11 @@ use Rattle.text.specs.Records.{split}
 use Rattle.text.proofs.LineLaws.{LineAt}
 use Rattle.text.proofs.SplitLaws.{split-cons}
 use Rattle.plan.specs.Form.{wordsOk}
-use Rattle.plan.specs.Layout.{at}
+use Rattle.plan.specs.Layout.{at, planWords}
 use Rattle.reading.specs.Reading.{State, Step, closed, first, next, opened, readOf, refuse, refused, step, withTask}
 use Rattle.reading.proofs.Accepted.{good, goodStep, step-good}
 use Rattle.reading.proofs.Theorems.{plan-ok, words-size, zero-at}
+use Rattle.plan.specs.Limits.{maxBytes, maxRegions, maxTasks}
 use Rattle.reader.specs.Machine.{Move, endOf, go, machineFrom, machineOf, move, onMove, stop}
 use Rattle.reader.specs.Steps.{Bounds, Walked}
 use Rattle.reader.specs.declared.Walk.the-variants.{Done, Refused}
@@ -47,7 +49,7 @@ pub record Reached (p : ℕ) (f w : List ℕ) : Type 0 where
   pub keeps : good state
   pub hand : Hand state p f w
 
-pub reached-first : Reached 0 (replicate 128 0) (replicate 1668 0)
+pub reached-first : Reached 0 (replicate maxRegions 0) (replicate planWords 0)
 reached-first = record { state = first; keeps = tt; hand = record { phases = refl; flags = no-flags; words = refl } }
 
 abbrev reachedMove : Move → Type 0
@@ -68,13 +70,13 @@ reached-next p f w r p′ f′ w′ R e = subst reachedMove e moved
         rw (R .hand .phases, R .hand .words)
         (after (step (R .state) r) (move (phase (R .state)) f (held (R .state)) r) (agrees (R .state) f r (R .keeps) (R .hand .flags)) (step-good (R .state) r (R .keeps)))
 
-bounds-of : (s : State) (f : List ℕ) → good s → length f ≡ 128 → (fl : Flags (namedStarts s) f) → Bounds (phase s) f (held s)
+bounds-of : (s : State) (f : List ℕ) → good s → length f ≡ maxRegions → (fl : Flags (namedStarts s) f) → Bounds (phase s) f (held s)
 bounds-of first f G e fl =
     record {
-      words = length-replicate {A = ℕ} 1668 0;
+      words = length-replicate {A = ℕ} planWords 0;
       flags = e;
-      regions = omega (arith, zero-at 1668 2);
-      tasks = omega (arith, zero-at 1668 3);
+      regions = omega (arith, zero-at planWords 2);
+      tasks = omega (arith, zero-at planWords 3);
       some = λ h. absurd (omega arith);
       count = λ h. absurd (omega arith);
     }
@@ -83,8 +85,8 @@ bounds-of (closed P) f G e fl =
     record {
       words = words-size P;
       flags = e;
-      regions = (let k : P .regions ≤ 128 = leb-true _ _ (G .regions) in omega (arith, c .regions));
-      tasks = (let k : length (P .tasks) ≤ 128 = leb-true _ _ (G .count) in omega (arith, c .tasks));
+      regions = (let k : P .regions ≤ maxRegions = leb-true _ _ (G .regions) in omega (arith, c .regions));
+      tasks = (let k : length (P .tasks) ≤ maxTasks = leb-true _ _ (G .count) in omega (arith, c .tasks));
       some = λ h. absurd (omega arith);
       count = λ h. absurd (omega arith);
     }
@@ -93,7 +95,7 @@ bounds-of (opened P t) f G e fl =
     record {
       words = words-size (withTask P t);
       flags = e;
-      regions = (let k : P .regions ≤ 128 = leb-true _ _ (G .0 .regions) in omega (arith, c .regions-of));
+      regions = (let k : P .regions ≤ maxRegions = leb-true _ _ (G .0 .regions) in omega (arith, c .regions-of));
       tasks = omega (arith, c .tasks, G .1);
       some = λ h. omega (arith, c .tasks);
       count = λ h. (let k : length (t .accesses) ≤ 8 = leb-true _ _ (G .2 .count) in omega (arith, count-is P t f G fl));
@@ -112,9 +114,9 @@ pub formed : (p : ℕ) (f w : List ℕ) → Reached p f w → p ≡ 1 → 1 ≤ 
 formed p f w R e h = rw (R .hand .words) (formed-of (R .state) (R .keeps) (sym (R .hand .phases) ∙ e) (rw (R .hand .words) at h))
 
 -- before the first line of a text that is not too long
-pub lines-first : (text f w : List ℕ) → length text ≤ 32768 → f ≡ replicate 128 0 → w ≡ replicate 1668 0 → machineFrom 1 0 f w (split 10 text) ≡ readOf text
+pub lines-first : (text f w : List ℕ) → length text ≤ maxBytes → f ≡ replicate maxRegions 0 → w ≡ replicate planWords 0 → machineFrom 1 0 f w (split 10 text) ≡ readOf text
 unfolding machineOf
-lines-first text f w h e k = let s = machine-same text in rw (e, k) (rw (le-ltb 32768 (length text) h) at s)
+lines-first text f w h e k = let s = machine-same text in rw (e, k) (rw (le-ltb maxBytes (length text) h) at s)
 
 -- what the loop answers
 pub walked-refused : (text w : List ℕ) (why line : ℕ) → readOf text ≡ refused why line → Walked text (Refused why line) w

@@ -1,4 +1,5 @@
--- What a record's tests, as the code has them, say of its move: where one fails, the refusal; where it passes, on with the next.
+-- What a record's tests, as the code has them, say of its move: where one fails, the refusal; where
+-- it passes, on with the next.
 use Prim.Native.Nat.{ℕ, zero, suc, _+_, _*_, _≤_, _<_}
 use mathlib.Core.Path.{_≡_, refl, sym, _∙_}
 use mathlib.Core.Bool.{Bool, true, false, not}
@@ -12,6 +13,7 @@ use Rattle.text.specs.declared.Number.{Number}
 use Rattle.text.specs.declared.Record.{Record}
 use Rattle.text.specs.declared.Record.the-variants.{Begin, End, Loop, Unreadable}
 use Rattle.plan.specs.Layout.{at}
+use Rattle.plan.specs.Limits.{maxRegions}
 use Rattle.reading.specs.Plan.{modeWord}
 use Rattle.reading.specs.Reading.{below, valueOf}
 use Rattle.reading.proofs.Accepted.{below-value}
@@ -63,7 +65,7 @@ module _ (n : ℕ) (m : Move) where
   flag-clear f v g x e h k = rw (← e, ne-eqb (at f v) 1 h) k
 
 -- a region that was tested indexes the flags
-pub region-low : (r v : ℕ) (b : Bool) (g : Number) → b ≡ below r g → not b ≡ false → v ≡ valueOf g → r ≤ 128 → v < 128
+pub region-low : (r v : ℕ) (b : Bool) (g : Number) → b ≡ below r g → not b ≡ false → v ≡ valueOf g → r ≤ maxRegions → v < maxRegions
 region-low r v b g e h u k = let l : valueOf g < r = ltb-true _ _ (below-value r g (sym e ∙ not-false b h)) in omega arith
 
 -- the stores of a record

@@ -1,5 +1,5 @@
 -- A reader that holds the words reads as the definition does.
-use Prim.Native.Nat.{ℕ, _+_, _-_, _*_, _≤_, _<_}
+use Prim.Native.Nat.{ℕ, _+_, _*_, _≤_, _<_}
 use mathlib.Core.Path.{_≡_, refl, sym, ap, ap₂, _∙_}
 use mathlib.Core.Bool.{or-false, Bool, true, false, cond, not, _||_, or-true}
 use mathlib.Core.List.{List, [], _∷_, _++_}
@@ -17,12 +17,13 @@ use Rattle.finite.proofs.Members.{mem-append}
 use Rattle.finite.proofs.Tabulate.{map-append}
 use Rattle.kernels.specs.Kernels.{suits}
 use Rattle.text.specs.Records.{recordOf, split}
-use Rattle.plan.specs.Layout.{accessesOf, at, isRead, regionAt}
+use Rattle.plan.specs.Layout.{accessesOf, at, isRead, regionAt, kernelOf}
 use Rattle.reading.specs.Plan.{Plan, Start, Task, modeWord, named, readCount, started}
 use Rattle.reading.specs.Reading.{Reading, State, Step, atEnd, below, closed, first, isEmpty, isWord, lies, need, next, noTaskYet, onStep, opened, readFrom, readOf, refuse, refused, step, valueOf}
 use Rattle.reading.proofs.Accepted.{below-value, good, goodStep, step-good}
 use Rattle.reading.proofs.Limits.{Limits}
 use Rattle.reading.proofs.Theorems.{zero-at}
+use Rattle.plan.specs.Limits.{maxPasses, maxBytes, maxRanks, maxRegions, maxTasks}
 use Rattle.reader.specs.Machine.{Move, endOf, go, machineFrom, machineOf, move, onMove, openCount, openTask, putAccess, putBegin, stop, unless}
 use Rattle.reader.proofs.Finds.{Open, closed-reads, open-reads}
 use Rattle.reader.proofs.Held.{held}
@@ -40,8 +41,8 @@ namedStarts (closed P) = started (P .starts)
 namedStarts (opened P t) = started (P .starts)
 
 pub record Flags (l f : List ℕ) : Type 0 where
-  pub size : length f ≡ 128
-  pub each : (g : ℕ) → g < 128 → eqb (at f g) 1 ≡ mem g l
+  pub size : length f ≡ maxRegions
+  pub each : (g : ℕ) → g < maxRegions → eqb (at f g) 1 ≡ mem g l
 
 -- what a reader has in hand is what the definition's state says
 pub record Hand (s : State) (p : ℕ) (f w : List ℕ) : Type 0 where
@@ -61,14 +62,14 @@ agree-need true false n x y e h = let z : _≡_ {A = ℕ} 0 1 = cc in absurd (om
 agree-need false true n x y e h = let z : _≡_ {A = ℕ} 0 1 = cc in absurd (omega arith)
 agree-need false false n x y e h = refl
 
-flags-start : (l : List Start) (f : List ℕ) (g v : ℕ) → g < 128 → Flags (started l) f → Flags (started (l ++ (record { region = g; value = v } ∷ []))) (set f g 1)
+flags-start : (l : List Start) (f : List ℕ) (g v : ℕ) → g < maxRegions → Flags (started l) f → Flags (started (l ++ (record { region = g; value = v } ∷ []))) (set f g 1)
 unfolding mem
 flags-start l f g v h F = record { size = length-set f g 1 ∙ F .size; each = each }
   where
     also : (x : ℕ) → mem x (started (l ++ (record { region = g; value = v } ∷ []))) ≡ (mem x (started l) || (eqb x g || false))
     also x = ap (mem x) (map-append (λ s. s .region) l (record { region = g; value = v } ∷ [])) ∙ mem-append x (started l) (g ∷ [])
 
-    each : (x : ℕ) → x < 128 → eqb (at (set f g 1) x) 1 ≡ mem x (started (l ++ (record { region = g; value = v } ∷ [])))
+    each : (x : ℕ) → x < maxRegions → eqb (at (set f g 1) x) 1 ≡ mem x (started (l ++ (record { region = g; value = v } ∷ [])))
     each x k =
         elim (ℕ-discrete x g) [
           | yes e ↦ ap (λ (y : ℕ). eqb y 1) (hit f g 1 x (omega (arith, F .size)) e) ∙ sym (also x ∙ rw (eq-eqb x g e) (or-true (mem x (started l))))
@@ -79,7 +80,7 @@ module _ (P : Plan) (f : List ℕ) (L : Limits P) (F : Flags (started (P .starts
   abbrev w : List ℕ
   w = held (closed P)
 
-  low : P .regions ≤ 128
+  low : P .regions ≤ maxRegions
   low = leb-true _ _ (L .regions)
 
   start-agrees : (g v : Number) → Agree (step (closed P) (Record.Start g v)) (move 1 f w (Record.Start g v))
@@ -103,7 +104,7 @@ module _ (P : Plan) (f : List ℕ) (L : Limits P) (F : Flags (started (P .starts
       agree-need (below (P .ranks) q) (below (at w 1) q) 3 _ _ (ap (λ (n : ℕ). below n q) (sym (r .ranks))) λ a.
       agree-need (lies 0 4 k) (lies 0 4 k) 3 _ _ refl λ b.
       agree-need (isWord c) (isWord c) 3 _ _ refl λ d.
-      agree-need (ltb (length (P .tasks)) 128) (ltb (at w 3) 128) 10 _ _ (ap (λ (n : ℕ). ltb n 128) (sym (r .tasks))) λ e.
+      agree-need (ltb (length (P .tasks)) maxTasks) (ltb (at w 3) maxTasks) 10 _ _ (ap (λ (n : ℕ). ltb n maxTasks) (sym (r .tasks))) λ e.
       record {
         phases = refl;
         flags = F;
@@ -137,19 +138,19 @@ module _ (P : Plan) (t : Task) (f : List ℕ) (G : good (opened P t)) (F : Flags
         words = ap₂ (λ (i j : ℕ). putAccess w2 i j (valueOf g + 128 * modeWord m)) open-is count-is ∙ sym (access-writes P t m (valueOf g) (G .1) (ltb-true _ _ b));
       }
 
-  suits-is : suits (t .kernel) (readCount (t .accesses)) ≡ suits (at w2 (133 + 12 * openTask w2)) (countBelow (openCount w2) (isRead w2 (openTask w2)))
+  suits-is : suits (t .kernel) (readCount (t .accesses)) ≡ suits (kernelOf w2 (openTask w2)) (countBelow (openCount w2) (isRead w2 (openTask w2)))
   suits-is = rw (count-is, open-is, finds .kernel, finds .reading)
 
   end-agrees : Agree (step (opened P t) End) (move 2 f w2 End)
   end-agrees =
-      agree-need (suits (t .kernel) (readCount (t .accesses))) (suits (at w2 (133 + 12 * openTask w2)) (countBelow (openCount w2) (isRead w2 (openTask w2)))) 9 _ _ suits-is λ a.
+      agree-need (suits (t .kernel) (readCount (t .accesses))) (suits (kernelOf w2 (openTask w2)) (countBelow (openCount w2) (isRead w2 (openTask w2)))) 9 _ _ suits-is λ a.
       record { phases = refl; flags = F; words = refl }
 
 pub agrees : (s : State) (f : List ℕ) (r : Record) → good s → Flags (namedStarts s) f → Agree (step s r) (move (phase s) f (held s) r)
 agrees first f (Loop p q n) G F =
-    agree-need (lies 0 1000000 p) (lies 0 1000000 p) 3 _ _ refl λ a.
-    agree-need (lies 1 16 q) (lies 1 16 q) 3 _ _ refl λ b.
-    agree-need (lies 1 128 n) (lies 1 128 n) 3 _ _ refl λ c.
+    agree-need (lies 0 maxPasses p) (lies 0 maxPasses p) 3 _ _ refl λ a.
+    agree-need (lies 1 maxRanks q) (lies 1 maxRanks q) 3 _ _ refl λ b.
+    agree-need (lies 1 maxRegions n) (lies 1 maxRegions n) 3 _ _ refl λ c.
     record { phases = refl; flags = F; words = sym (loop-writes (valueOf p) (valueOf q) (valueOf n)) }
 agrees first f (Record.Start g v) G F = refl
 agrees first f (Begin q k c) G F = refl
@@ -191,10 +192,10 @@ same-from (l ∷ m ∷ ls) n s f G F =
     (agrees s f (recordOf l) G F) (step-good s (recordOf l) G)
     (λ t p f′ w′ H A. rw (A .phases, A .words) (same-from (m ∷ ls) (n + 1) t f′ H (A .flags)))
 
-pub no-flags : Flags [] (replicate 128 0)
+pub no-flags : Flags [] (replicate maxRegions 0)
 unfolding mem
-no-flags = record { size = length-replicate {A = ℕ} 128 0; each = λ g h. ap (λ (y : ℕ). eqb y 1) (zero-at 128 g) }
+no-flags = record { size = length-replicate {A = ℕ} maxRegions 0; each = λ g h. ap (λ (y : ℕ). eqb y 1) (zero-at maxRegions g) }
 
 pub machine-same : (text : List ℕ) → machineOf text ≡ readOf text
 unfolding machineOf readOf
-machine-same text = ap (λ r. cond (ltb 32768 (length text)) (refused 10 0) r) (same-from (split 10 text) 1 first (replicate 128 0) tt no-flags)
+machine-same text = ap (λ r. cond (ltb maxBytes (length text)) (refused 10 0) r) (same-from (split 10 text) 1 first (replicate maxRegions 0) tt no-flags)

@@ -1,5 +1,5 @@
--- What reading a lent text into a lent plan answers and leaves (paper 01, "Refusals that come from the input", and 11 of "Refusals that
--- come from the state").
+-- What reading a lent text into a lent plan answers and leaves (paper 01, "Refusals that come from
+-- the input", and 11 of "Refusals that come from the state").
 use Prim.Native.Nat.{ℕ, _≤_, _<_}
 use mathlib.Core.Path.{_≡_}
 use mathlib.Core.List.{List, _++_}

@@ -1,5 +1,6 @@
--- Reading as the code does it, on the plan's words: the same refusals, tested on the words, which are stored along the way. Nothing here
--- need be believed: `proofs/Same.antt` proves that it is `readOf`.
+-- Reading as the code does it, on the plan's words: the same refusals, tested on the words, which
+-- are stored along the way. Nothing here need be believed: `proofs/Same.antt` proves that it is
+-- `readOf`.
 use Prim.Native.Nat.{ℕ, zero, suc, _+_, _-_, _*_}
 use mathlib.Core.Bool.{Bool, cond, not}
 use mathlib.Core.List.{List, [], _∷_}
@@ -11,12 +12,13 @@ use Rattle.finite.specs.Below.{anyBelow, countBelow}
 use Rattle.body.specs.Transfers.{transferCount}
 use Rattle.kernels.specs.Kernels.{suits}
 use Rattle.text.specs.Records.{recordOf, split}
-use Rattle.plan.specs.Layout.{accessesOf, at, bodyOf, isRead, kernelOf, planWords, ranksOf, regionAt, regionsOf, tasksOf}
+use Rattle.plan.specs.Layout.{accessesOf, at, bodyOf, isRead, kernelOf, planWords, ranksOf, regionAt, regionsOf, tasksOf, rankIndex, kernelIndex, constantIndex, accessesIndex, accessIndex}
 use Rattle.plan.specs.Limits.{maxAccesses, maxBytes, maxKernel, maxPasses, maxRanks, maxRegions, maxTasks, maxTransfers}
 use Rattle.reading.specs.Plan.{modeWord}
 use Rattle.reading.specs.Reading.{Reading, accepted, below, isEmpty, isWord, lies, refused, valueOf}
 
--- phase 0: no line read, 1: no task open, 2: a task open; a flag for each region that a `start` named; the words
+-- phase 0: no line read, 1: no task open, 2: a task open; a flag for each region that a `start`
+-- named; the words
 pub data Move : Type 0 where
   go : ℕ → List ℕ → List ℕ → Move
   stop : ℕ → Move
@@ -35,10 +37,10 @@ abbrev pub putLoop : List ℕ → ℕ → ℕ → ℕ → List ℕ
 putLoop w p q n = set (set (set w 0 p) 1 q) 2 n
 
 abbrev pub putBegin : List ℕ → ℕ → ℕ → ℕ → ℕ → List ℕ
-putBegin w t q k c = set (set (set (set w 3 (t + 1)) (132 + 12 * t) q) (133 + 12 * t) k) (134 + 12 * t) c
+putBegin w t q k c = set (set (set (set w 3 (t + 1)) (rankIndex t) q) (kernelIndex t) k) (constantIndex t) c
 
 abbrev pub putAccess : List ℕ → ℕ → ℕ → ℕ → List ℕ
-putAccess w t a x = set (set w (136 + 12 * t + a) x) (135 + 12 * t) (a + 1)
+putAccess w t a x = set (set w (accessIndex t a) x) (accessesIndex t) (a + 1)
 
 abbrev pub move : ℕ → List ℕ → List ℕ → Record → Move
 move zero f w (Loop p q n) =

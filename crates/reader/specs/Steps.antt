@@ -1,11 +1,13 @@
--- What the code's private functions answer and leave, said of the word machine. Nothing here need be believed.
+-- What the code's private functions answer and leave, said of the word machine. Nothing here need
+-- be believed.
 use Prim.Native.Nat.{ℕ, _≤_}
 use mathlib.Core.Path.{_≡_}
 use mathlib.Core.List.{List}
 use mathlib.Core.Bool.{true}
 use lib.ListN.{length, replicate}
+use Rattle.plan.specs.Limits.{maxAccesses, maxRegions, maxTasks}
 use Rattle.plan.specs.Form.{wordsOk}
-use Rattle.plan.specs.Layout.{at, planWords, tasksOf}
+use Rattle.plan.specs.Layout.{planWords, regionsOf, tasksOf}
 use Rattle.reading.specs.Reading.{Reading, accepted, readOf, refused}
 use Rattle.reader.specs.Answer.{answerOf}
 use Rattle.reader.specs.Machine.{Move, endOf, go, openCount, stop}
@@ -15,26 +17,28 @@ use Rattle.reader.specs.declared.Step.the-variants.{Go, Stop}
 use Rattle.reader.specs.declared.Walk.{Walk}
 use Rattle.reader.specs.declared.Walk.the-variants.{Done, Refused}
 
--- a step's answer, with the flags and the words that it left; where it refused they are of no interest
+-- a step's answer, with the flags and the words that it left; where it refused they are of no
+-- interest
 abbrev pub moveOf : Step → List ℕ → List ℕ → Move
 moveOf (Go phase) named words = go phase named words
 moveOf (Stop why) named words = stop why
 
 -- what keeps each index within its slice
 pub record Bounds (p : ℕ) (f w : List ℕ) : Type 0 where
-  pub words : length w ≡ 1668
-  pub flags : length f ≡ 128
-  pub regions : at w 2 ≤ 128
-  pub tasks : at w 3 ≤ 128
-  pub some : 2 ≤ p → 1 ≤ at w 3
-  pub count : 2 ≤ p → openCount w ≤ 8
+  pub words : length w ≡ planWords
+  pub flags : length f ≡ maxRegions
+  pub regions : regionsOf w ≤ maxRegions
+  pub tasks : tasksOf w ≤ maxTasks
+  pub some : 2 ≤ p → 1 ≤ tasksOf w
+  pub count : 2 ≤ p → openCount w ≤ maxAccesses
 
 -- what the lines lead to, with the words that they left
 abbrev pub readingOf : Walk → List ℕ → Reading
 readingOf (Refused why line) words = refused why line
 readingOf (Done phase line) words = endOf line phase words
 
--- after the lines: that leads to what the text is read as, and the words of a plan with a task are in form but for its transfers
+-- after the lines: that leads to what the text is read as, and the words of a plan with a task are
+-- in form but for its transfers
 pub record Walked (text : List ℕ) (r : Walk) (words : List ℕ) : Type 0 where
   pub reads : readingOf r words ≡ readOf text
   pub formed : (line : ℕ) → r ≡ Done 1 line → 1 ≤ tasksOf words → wordsOk words ≡ true

@@ -1,6 +1,6 @@
-// Reading a lent text into a lent plan: line after line, each record's tests in the paper's order, its words stored where it passes
-// them all. The words of a plan: 0 passes, 1 ranks, 2 regions, 3 tasks, 4 + g the starting value of region g; from 132 + 12 t on those
-// of task t, which are rank, kernel, constant, number of accesses and the accesses. What a line says is no matter of this crate.
+// Reading a lent text into a lent plan: line after line, each record's tests in the paper's order,
+// its words stored where it passes them all. Where the words of a plan stand is in
+// plan/src/layout.rt. What a line says is no matter of this crate.
 ghost use mathlib.Core.Path.{_≡_};
 ghost use mathlib.Core.Bool.{true};
 ghost use mathlib.Core.List.{List};
@@ -8,15 +8,32 @@ ghost use Prim.Native.Nat.{ℕ, _≤_, _<_};
 ghost use lib.Dec.{eqb};
 ghost use lib.ListN.{length, replicate};
 ghost use Rattle.text.specs.declared.Record.{Record};
-ghost use Rattle.finite.specs.Below.{anyBelow, countBelow};
-ghost use Rattle.plan.specs.Layout.{at, isRead, planWords, regionAt, tasksOf};
+ghost use Rattle.finite.specs.Below.{anyBelow};
+ghost use Rattle.plan.specs.Layout.{planWords, regionAt, regionsOf, tasksOf};
 ghost use Rattle.plan.specs.Form.{inForm, wordsOk};
-ghost use Rattle.plan.specs.Limits.{maxBytes, maxRegions};
+ghost use Rattle.plan.specs.Limits.{maxAccesses, maxBytes, maxRegions, maxTasks};
 ghost use Rattle.reading.specs.Plan.{modeWord};
 ghost use Rattle.reading.specs.Reading.{below, lies, readOf, refused, valueOf};
 ghost use Rattle.reader.specs.Answer.{Reads};
 ghost use Rattle.reader.specs.Machine.{endOf, move, openCount};
 ghost use Rattle.reader.specs.Steps.{Bounds, Tells, Walked, moveOf};
+use form::in_form;
+use plan::layout::FIRST_ACCESS;
+use plan::layout::FIRST_CONSTANT;
+use plan::layout::FIRST_COUNT;
+use plan::layout::FIRST_KERNEL;
+use plan::layout::FIRST_RANK;
+use plan::layout::FIRST_START;
+use plan::layout::MODE;
+use plan::layout::PASSES;
+use plan::layout::PLAN_WORDS;
+use plan::layout::RANKS;
+use plan::layout::REGIONS;
+use plan::layout::TASK_WORDS;
+use plan::layout::TASKS;
+use plan::layout::access_at;
+use plan::layout::kernel_of;
+use plan::layout::read_count;
 use plan::limits::MAX_ACCESSES;
 use plan::limits::MAX_BYTES;
 use plan::limits::MAX_KERNEL;
@@ -25,7 +42,6 @@ use plan::limits::MAX_RANKS;
 use plan::limits::MAX_REGIONS;
 use plan::limits::MAX_TASKS;
 use plan::limits::MAX_WORD;
-use plan::limits::PLAN_WORDS;
 use text::Mode;
 use text::Number;
 use text::Record;
@@ -38,7 +54,8 @@ pub struct Answer {
     pub line: u64,
 }
 
-// What a record leads to: on with a phase (0 no line read, 1 no task open, 2 a task open), or a refusal.
+// What a record leads to: on with a phase (0 no line read, 1 no task open, 2 a task open), or a
+// refusal.
 enum Step {
     Go(u64),
     Stop(u64),
@@ -90,35 +107,21 @@ fn mode_word(mode: Mode) -> u64
 
 // Whether one of the n accesses of task t names the region.
 fn is_named(words: &[u64], t: usize, n: usize, region: u64) -> bool
-    requires { ⌜ (length (now words) ≡ 1668) × (t < 128) × (n ≤ 8) ⌝ }
+    requires { ⌜ (length (now words) ≡ planWords) × (t < maxTasks) × (n ≤ maxAccesses) ⌝ }
     ensures { λ r. ⌜ r ≡ anyBelow n (λ a. eqb region (regionAt (now (words .entry)) t a)) ⌝ }
 {
     let mut found = false;
     let mut a: usize = 0;
     while a < n {
-        found = found | (region == words[136 + 12 * t + a] % 128);
+        found = found | (region == access_at(words, t, a) % MODE);
         a += 1;
     }
     found
 }
 
-// How many of the n accesses of task t read their region.
-fn count_reads(words: &[u64], t: usize, n: usize) -> u64
-    requires { ⌜ (length (now words) ≡ 1668) × (t < 128) × (n ≤ 8) ⌝ }
-    ensures { λ r. ⌜ r ≡ countBelow n (isRead (now (words .entry)) t) ⌝ }
-{
-    let mut reads: u64 = 0;
-    let mut a: usize = 0;
-    while a < n {
-        reads += (words[136 + 12 * t + a] / 128 != 1) as u64;
-        a += 1;
-    }
-    reads
-}
-
 // The first line: its numbers are the first words.
 fn take_loop(words: &mut [u64], passes: Number, ranks: Number, regions: Number) -> Step
-    requires { ⌜ length (now words) ≡ 1668 ⌝ }
+    requires { ⌜ length (now words) ≡ planWords ⌝ }
     ensures { λ r. ⌜ ((f : List ℕ) → moveOf r f (now (words .exit)) ≡ move 0 f (now (words .entry)) (Record.Loop passes ranks regions)) ⌝ }
 {
     if !is_within(0, MAX_PASSES, passes) {
@@ -130,22 +133,22 @@ fn take_loop(words: &mut [u64], passes: Number, ranks: Number, regions: Number) 
     if !is_within(1, MAX_REGIONS, regions) {
         return Step::Stop(3);
     }
-    words[0] = value_of(passes);
-    words[1] = value_of(ranks);
-    words[2] = value_of(regions);
+    words[PASSES] = value_of(passes);
+    words[RANKS] = value_of(ranks);
+    words[REGIONS] = value_of(regions);
     Step::Go(1)
 }
 
 // A starting value. A flag is 1 where a `start` named its region.
 fn take_start(named: &mut [u64], words: &mut [u64], region: Number, value: Number) -> Step
-    requires { ⌜ (length (now named) ≡ 128) × (length (now words) ≡ 1668) × (at (now words) 2 ≤ 128) ⌝ }
+    requires { ⌜ (length (now named) ≡ maxRegions) × (length (now words) ≡ planWords) × (regionsOf (now words) ≤ maxRegions) ⌝ }
     ensures { λ r. ⌜ moveOf r (now (named .exit)) (now (words .exit)) ≡ move 1 (now (named .entry)) (now (words .entry)) (Record.Start region value) ⌝ }
 {
-    let tasks = words[3];
+    let tasks = words[TASKS];
     if tasks != 0 {
         return Step::Stop(2);
     }
-    let regions = words[2];
+    let regions = words[REGIONS];
     if !is_below(regions, region) {
         return Step::Stop(3);
     }
@@ -158,16 +161,16 @@ fn take_start(named: &mut [u64], words: &mut [u64], region: Number, value: Numbe
         return Step::Stop(6);
     }
     named[g] = 1;
-    words[4 + g] = value_of(value);
+    words[FIRST_START + g] = value_of(value);
     Step::Go(1)
 }
 
 // A task opens: its words are those behind the tasks that the plan has.
 fn take_begin(words: &mut [u64], rank: Number, kernel: Number, constant: Number) -> Step
-    requires { ⌜ length (now words) ≡ 1668 ⌝ }
+    requires { ⌜ length (now words) ≡ planWords ⌝ }
     ensures { λ r. ⌜ ((f : List ℕ) → moveOf r f (now (words .exit)) ≡ move 1 f (now (words .entry)) (Record.Begin rank kernel constant)) ⌝ }
 {
-    let ranks = words[1];
+    let ranks = words[RANKS];
     if !is_below(ranks, rank) {
         return Step::Stop(3);
     }
@@ -177,29 +180,32 @@ fn take_begin(words: &mut [u64], rank: Number, kernel: Number, constant: Number)
     if !is_within(0, MAX_WORD, constant) {
         return Step::Stop(3);
     }
-    let tasks = words[3];
+    let tasks = words[TASKS];
     if tasks >= MAX_TASKS {
         return Step::Stop(10);
     }
     let t = tasks as usize;
-    words[3] = tasks + 1;
-    words[132 + 12 * t] = value_of(rank);
-    words[133 + 12 * t] = value_of(kernel);
-    words[134 + 12 * t] = value_of(constant);
+    words[TASKS] = tasks + 1;
+    words[FIRST_RANK + TASK_WORDS * t] = value_of(rank);
+    words[FIRST_KERNEL + TASK_WORDS * t] = value_of(kernel);
+    words[FIRST_CONSTANT + TASK_WORDS * t] = value_of(constant);
     Step::Go(2)
 }
 
 // An access of the task that is open.
 fn take_access(words: &mut [u64], mode: Mode, region: Number) -> Step
-    requires { ⌜ (length (now words) ≡ 1668) × (at (now words) 2 ≤ 128) × (1 ≤ at (now words) 3) × (at (now words) 3 ≤ 128) × (openCount (now words) ≤ 8) ⌝ }
+    requires { ⌜
+        (length (now words) ≡ planWords) × (regionsOf (now words) ≤ maxRegions) × (1 ≤ tasksOf (now words))
+        × (tasksOf (now words) ≤ maxTasks) × (openCount (now words) ≤ maxAccesses)
+        ⌝ }
     ensures { λ r. ⌜ ((f : List ℕ) → moveOf r f (now (words .exit)) ≡ move 2 f (now (words .entry)) (Record.Access mode region)) ⌝ }
 {
-    let regions = words[2];
+    let regions = words[REGIONS];
     if !is_below(regions, region) {
         return Step::Stop(3);
     }
-    let t = words[3] as usize - 1;
-    let n = words[135 + 12 * t] as usize;
+    let t = words[TASKS] as usize - 1;
+    let n = words[FIRST_COUNT + TASK_WORDS * t] as usize;
     if n >= MAX_ACCESSES {
         return Step::Stop(10);
     }
@@ -207,20 +213,18 @@ fn take_access(words: &mut [u64], mode: Mode, region: Number) -> Step
     if is_named(words, t, n, g) {
         return Step::Stop(6);
     }
-    words[136 + 12 * t + n] = g + 128 * mode_word(mode);
-    words[135 + 12 * t] = n as u64 + 1;
+    words[FIRST_ACCESS + TASK_WORDS * t + n] = g + MODE * mode_word(mode);
+    words[FIRST_COUNT + TASK_WORDS * t] = n as u64 + 1;
     Step::Go(2)
 }
 
 // The task that is open ends: its words stand already.
 fn take_end(words: &[u64]) -> Step
-    requires { ⌜ (length (now words) ≡ 1668) × (1 ≤ at (now words) 3) × (at (now words) 3 ≤ 128) × (openCount (now words) ≤ 8) ⌝ }
+    requires { ⌜ (length (now words) ≡ planWords) × (1 ≤ tasksOf (now words)) × (tasksOf (now words) ≤ maxTasks) × (openCount (now words) ≤ maxAccesses) ⌝ }
     ensures { λ r. ⌜ ((f : List ℕ) → moveOf r f (now (words .entry)) ≡ move 2 f (now (words .entry)) Record.End) ⌝ }
 {
-    let t = words[3] as usize - 1;
-    let n = words[135 + 12 * t] as usize;
-    let reads = count_reads(words, t, n);
-    if kernels::suits_kernel(words[133 + 12 * t], reads) {
+    let t = words[TASKS] as usize - 1;
+    if kernels::suits_kernel(kernel_of(words, t), read_count(words, t)) {
         return Step::Go(1);
     }
     Step::Stop(9)
@@ -341,7 +345,8 @@ fn refuse(words: &mut [u64], why: u64, line: u64) -> Answer
     Answer { refusal: why, line }
 }
 
-// After the last line: whether the words are in form tells there whether their transfers are few enough.
+// After the last line: whether the words are in form tells there whether their transfers are few
+// enough.
 fn at_end(phase: u64, line: u64, words: &mut [u64], fits: bool) -> Answer
     requires { ⌜ (length (now words) ≡ planWords) × (fits ≡ inForm (now words)) × (phase ≡ 1 → 1 ≤ tasksOf (now words) → wordsOk (now words) ≡ true) ⌝ }
     ensures { λ r. ⌜ Tells (endOf line phase (now (words .entry))) r (now (words .exit)) ⌝ }
@@ -352,7 +357,7 @@ fn at_end(phase: u64, line: u64, words: &mut [u64], fits: bool) -> Answer
     if phase != 1 {
         return refuse(words, 7, line);
     }
-    let tasks = words[3];
+    let tasks = words[TASKS];
     if tasks == 0 {
         return refuse(words, 8, line);
     }
@@ -382,7 +387,7 @@ fn read_into(text: &[u8], words: &mut [u64]) -> Answer
     match walk {
         Walk::Refused { why, line } => refuse(words, why, line),
         Walk::Done { phase, line } => {
-            let fits = plan::in_form(words);
+            let fits = in_form(words);
             at_end(phase, line, words, fits)
         }
     }

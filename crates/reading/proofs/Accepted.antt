@@ -16,6 +16,7 @@ use Rattle.finite.proofs.Members.{distinct-snoc}
 use Rattle.finite.proofs.Tabulate.{map-append}
 use Rattle.finite.proofs.Tests.{and-intro, and-true, not-both}
 use Rattle.kernels.specs.Kernels.{suits}
+use Rattle.plan.specs.Limits.{maxPasses, maxRanks, maxRegions, maxTasks, maxWord}
 use Rattle.reading.specs.Plan.{Plan, Task, named, readCount, started}
 use Rattle.reading.specs.Reading.{State, Step, below, closed, first, isWord, lies, need, newTask, next, noTaskYet, opened, refuse, step, valueOf, withAccess, withLoop, withStart, withTask}
 use Rattle.reading.specs.Valid.{accessFits, inWord, openFits, startFits, taskFits}
@@ -25,7 +26,7 @@ use Rattle.reading.proofs.Lists.{every-snoc}
 abbrev pub good : State → Type 0
 good first = Unit
 good (closed P) = Limits P
-good (opened P t) = Limits P × (length (P .tasks) < 128) × Opens (P .ranks) (P .regions) t
+good (opened P t) = Limits P × (length (P .tasks) < maxTasks) × Opens (P .ranks) (P .regions) t
 
 abbrev pub goodStep : Step → Type 0
 goodStep (next s) = good s
@@ -45,7 +46,7 @@ lies-value a b (Value v) h = and-true (leb a v) (leb v b) h
 lies-value a b TooLarge h = absurd (not-both h refl)
 lies-value a b Malformed h = absurd (not-both h refl)
 
-loop-good : (p q n : ℕ) → leb p 1000000 ≡ true → (leb 1 q ≡ true) × (leb q 16 ≡ true) → (leb 1 n ≡ true) × (leb n 128 ≡ true) → Limits (withLoop p q n)
+loop-good : (p q n : ℕ) → leb p maxPasses ≡ true → (leb 1 q ≡ true) × (leb q maxRanks ≡ true) → (leb 1 n ≡ true) × (leb n maxRegions ≡ true) → Limits (withLoop p q n)
 unfolding distinct
 loop-good p q n a b c =
     record {
@@ -74,7 +75,7 @@ start-good P g v l a b c =
       tasks = l .tasks;
     }
 
-begin-good : (P : Plan) (q k c : ℕ) → Limits P → ltb q (P .ranks) ≡ true → leb k 4 ≡ true → inWord c ≡ true → ltb (length (P .tasks)) 128 ≡ true → good (opened P (newTask q k c))
+begin-good : (P : Plan) (q k c : ℕ) → Limits P → ltb q (P .ranks) ≡ true → leb k 4 ≡ true → inWord c ≡ true → ltb (length (P .tasks)) maxTasks ≡ true → good (opened P (newTask q k c))
 unfolding distinct
 begin-good P q k c l a b d e =
     (l, ltb-true _ _ e, record { rank = a; kernel = b; constant = d; count = refl; accesses = refl; once = refl })
@@ -91,7 +92,7 @@ access-good q n t m g o a b c =
       once = rw (map-append (λ s. s .region) (t .accesses) (record { mode = m; region = g } ∷ [])) (distinct-snoc (named (t .accesses)) g (o .once) c);
     }
 
-task-good : (P : Plan) (t : Task) → Limits P → length (P .tasks) < 128 → Opens (P .ranks) (P .regions) t → suits (t .kernel) (readCount (t .accesses)) ≡ true → Limits (withTask P t)
+task-good : (P : Plan) (t : Task) → Limits P → length (P .tasks) < maxTasks → Opens (P .ranks) (P .regions) t → suits (t .kernel) (readCount (t .accesses)) ≡ true → Limits (withTask P t)
 task-good P t l k o s =
     record {
       passes = l .passes;
@@ -101,7 +102,7 @@ task-good P t l k o s =
       regions = l .regions;
       starts = l .starts;
       once = l .once;
-      count = le-leb (length (P .tasks ++ (t ∷ []))) 128 (omega (arith, length-append (P .tasks) (t ∷ [])));
+      count = le-leb (length (P .tasks ++ (t ∷ []))) maxTasks (omega (arith, length-append (P .tasks) (t ∷ [])));
       tasks = every-snoc (taskFits (P .ranks) (P .regions)) (P .tasks) t (l .tasks) (and-intro (openFits (P .ranks) (P .regions) t) _ (is-open _ _ t o) s);
     }
 
@@ -111,7 +112,7 @@ further P t u l o = (l .0, l .1, o)
 pub step-good : (s : State) (r : Record) → good s → goodStep (step s r)
 step-good first (Loop p q n) u =
     good-need _ _ _ λ a. good-need _ _ _ λ b. good-need _ _ _ λ c.
-    loop-good (valueOf p) (valueOf q) (valueOf n) (lies-value 0 1000000 p a .1) (lies-value 1 16 q b) (lies-value 1 128 n c)
+    loop-good (valueOf p) (valueOf q) (valueOf n) (lies-value 0 maxPasses p a .1) (lies-value 1 maxRanks q b) (lies-value 1 maxRegions n c)
 step-good first (Record.Start g v) u = tt
 step-good first (Begin q k c) u = tt
 step-good first (Record.Access m g) u = tt
@@ -120,10 +121,10 @@ step-good first Unreadable u = tt
 step-good (closed P) (Loop p q n) l = tt
 step-good (closed P) (Record.Start g v) l =
     good-need (noTaskYet P) 2 _ λ o. good-need (below (P .regions) g) 3 _ λ a. good-need (isWord v) 3 _ λ b. good-need (not (mem (valueOf g) (started (P .starts)))) 6 _ λ c.
-    start-good P (valueOf g) (valueOf v) l (below-value (P .regions) g a) (lies-value 0 18446744073709551615 v b .1) (not-true _ c)
+    start-good P (valueOf g) (valueOf v) l (below-value (P .regions) g a) (lies-value 0 maxWord v b .1) (not-true _ c)
 step-good (closed P) (Begin q k c) l =
     good-need _ _ _ λ a. good-need _ _ _ λ b. good-need _ _ _ λ d. good-need _ _ _ λ e.
-    begin-good P (valueOf q) (valueOf k) (valueOf c) l (below-value (P .ranks) q a) (lies-value 0 4 k b .1) (lies-value 0 18446744073709551615 c d .1) e
+    begin-good P (valueOf q) (valueOf k) (valueOf c) l (below-value (P .ranks) q a) (lies-value 0 4 k b .1) (lies-value 0 maxWord c d .1) e
 step-good (closed P) (Record.Access m g) l = tt
 step-good (closed P) End l = tt
 step-good (closed P) Unreadable l = tt

@@ -122,7 +122,7 @@ step-adds (closed P) (Record.Start g v) G =
     adds-need _ _ (below (P .regions) g) 3 _ λ a.
     adds-need _ _ (isWord v) 3 _ λ b.
     adds-need _ _ (not (mem (valueOf g) (started (P .starts)))) 6 _ λ c.
-    let l : P .regions ≤ 128 = leb-true _ _ (G .regions) in (
+    let l : P .regions ≤ maxRegions = leb-true _ _ (G .regions) in (
       start-adds P (valueOf g) (valueOf v) o ∙ rw (below-is (P .regions) g a, lies-is 0 maxWord v b),
       rw (below-word (P .regions) g (omega arith) a, b),
     )
@@ -131,7 +131,7 @@ step-adds (closed P) (Begin q k c) G =
     adds-need _ _ (lies 0 maxKernel k) 3 _ λ b.
     adds-need _ _ (isWord c) 3 _ λ d.
     adds-need _ _ (ltb (length (P .tasks)) maxTasks) 10 _ λ e.
-    let l : P .ranks ≤ 16 = leb-true _ _ (G .ranks) in (
+    let l : P .ranks ≤ maxRanks = leb-true _ _ (G .ranks) in (
       rw (below-is (P .ranks) q a, lies-is 0 maxKernel k b, lies-is 0 maxWord c d),
       rw (below-word (P .ranks) q (omega arith) a, lies-word 0 maxKernel k (omega arith) b, d),
     )
@@ -145,7 +145,7 @@ step-adds (opened P t) (Record.Access m g) G =
     adds-need _ _ (below (P .regions) g) 3 _ λ a.
     adds-need _ _ (ltb (length (t .accesses)) maxAccesses) 10 _ λ b.
     adds-need _ _ (not (mem (valueOf g) (named (t .accesses)))) 6 _ λ c.
-    let l : P .regions ≤ 128 = leb-true _ _ (G .0 .regions) in (
+    let l : P .regions ≤ maxRegions = leb-true _ _ (G .0 .regions) in (
       access-adds P t m (valueOf g) ∙ rw (below-is (P .regions) g a),
       below-word (P .regions) g (omega arith) a,
     )

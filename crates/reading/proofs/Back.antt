@@ -12,7 +12,8 @@ use Rattle.finite.specs.Lists.{tabulate}
 use Rattle.finite.proofs.Lists.{getD-tabulate}
 use Rattle.finite.proofs.Tabulate.{tabulate-ext, tabulate-list}
 use Rattle.finite.proofs.Tests.{and-intro, and-true}
-use Rattle.plan.specs.Layout.{planWords}
+use Rattle.plan.specs.Layout.{planWords, rankIndex, kernelIndex, constantIndex, accessesIndex, accessIndex, taskWords}
+use Rattle.plan.specs.Limits.{maxRegions, maxTasks}
 use Rattle.reading.specs.Plan.{Access, Plan, Start, Task, accessOf, accessWord, modeOf, modeWord, noTask, planOf, startAt, startsOf, taskAt, taskOf, taskWord, wordAt, wordsOf}
 use Rattle.reading.specs.Valid.{accessFits, every, openFits, taskFits, valid}
 use Rattle.reading.proofs.Canonical.{canonical}
@@ -24,7 +25,7 @@ abbrev pub noAccess : Access
 noAccess = record { mode = Mode.In; region = 0 }
 
 -- an access by its word
-pub access-split : (m : Mode) (r : ℕ) → r < 128 → ((r + 128 * modeWord m) / 128 ≡ modeWord m) × ((r + 128 * modeWord m) % 128 ≡ r)
+pub access-split : (m : Mode) (r : ℕ) → r < maxRegions → ((r + 128 * modeWord m) / 128 ≡ modeWord m) × ((r + 128 * modeWord m) % 128 ≡ r)
 access-split Mode.In r h = (omega arith, omega arith)
 access-split Mode.Out r h = (omega arith, omega arith)
 access-split Mode.Inout r h = (omega arith, omega arith)
@@ -34,10 +35,10 @@ mode-back Mode.In = refl
 mode-back Mode.Out = refl
 mode-back Mode.Inout = refl
 
-pub access-back : (a : Access) → a .region < 128 → accessOf (accessWord a) ≡ a
+pub access-back : (a : Access) → a .region < maxRegions → accessOf (accessWord a) ≡ a
 access-back a h = let s = access-split (a .mode) (a .region) h in rw (s .0, s .1, mode-back (a .mode))
 
-accesses-back : (n : ℕ) (l : List Access) → n ≤ 128 → every (accessFits n) l ≡ true → (a : ℕ) → a < length l → accessOf (getD (map accessWord l) a 0) ≡ getD l a noAccess
+accesses-back : (n : ℕ) (l : List Access) → n ≤ maxRegions → every (accessFits n) l ≡ true → (a : ℕ) → a < length l → accessOf (getD (map accessWord l) a 0) ≡ getD l a noAccess
 accesses-back n l h k a m =
     rw (List·getD-map accessWord l a noAccess)
     (access-back (getD l a noAccess) (let b : getD l a noAccess .region < n = ltb-true _ _ (every-at (accessFits n) l a noAccess k m) in omega arith))
@@ -47,19 +48,19 @@ task-same : (a b c a′ b′ c′ : ℕ) (l l′ : List Access) → a ≡ a′ �
 task-same a b c a′ b′ c′ l l′ p q r s = rw (p, q, r, s)
 
 -- word j of task t
-pub task-word : (P : Plan) (t j : ℕ) → j < 12 → wordAt P (132 + 12 * t + j) ≡ taskWord (taskAt (P .tasks) t) j
+pub task-word : (P : Plan) (t j : ℕ) → j < taskWords → wordAt P (rankIndex t + j) ≡ taskWord (taskAt (P .tasks) t) j
 task-word P t j h =
-    let e : 132 + 12 * t + j ≡ suc (suc (suc (suc (128 + 12 * t + j)))) = omega arith in
-    let q : (128 + 12 * t + j - 128) / 12 ≡ t = omega arith in
-    let r : (128 + 12 * t + j - 128) % 12 ≡ j = omega arith in
-    rw (e, le-ltb (128 + 12 * t + j) 128 (omega arith), q, r)
+    let e : rankIndex t + j ≡ suc (suc (suc (suc (maxRegions + taskWords * t + j)))) = omega arith in
+    let q : (maxRegions + taskWords * t + j - maxRegions) / taskWords ≡ t = omega arith in
+    let r : (maxRegions + taskWords * t + j - maxRegions) % taskWords ≡ j = omega arith in
+    rw (e, le-ltb (maxRegions + taskWords * t + j) maxRegions (omega arith), q, r)
 
-pub start-word : (P : Plan) (g : ℕ) → g < 128 → wordAt P (4 + g) ≡ startAt (P .starts) g
+pub start-word : (P : Plan) (g : ℕ) → g < maxRegions → wordAt P (4 + g) ≡ startAt (P .starts) g
 start-word P g h =
     let e : 4 + g ≡ suc (suc (suc (suc g))) = omega arith in
-    rw (e, lt-ltb g 128 h)
+    rw (e, lt-ltb g maxRegions h)
 
-pub word-at : (P : Plan) (i : ℕ) → i < 1668 → getD (wordsOf P) i 0 ≡ wordAt P i
+pub word-at : (P : Plan) (i : ℕ) → i < planWords → getD (wordsOf P) i 0 ≡ wordAt P i
 unfolding wordsOf
 word-at P i h = getD-tabulate (wordAt P) planWords i 0 h
 
@@ -67,29 +68,29 @@ module _ (P : Plan) (L : Limits P) where
   abbrev words : List ℕ
   words = wordsOf P
 
-  pub few : length (P .tasks) ≤ 128
+  pub few : length (P .tasks) ≤ maxTasks
   few = leb-true _ _ (L .count)
 
-  pub low : P .regions ≤ 128
+  pub low : P .regions ≤ maxRegions
   low = leb-true _ _ (L .regions)
 
-  pub task-at : (t j i : ℕ) → t < 128 → j < 12 → i ≡ 132 + 12 * t + j → getD words i 0 ≡ taskWord (taskAt (P .tasks) t) j
-  task-at t j i h k e = ap (λ (x : ℕ). getD words x 0) e ∙ word-at P (132 + 12 * t + j) (omega arith) ∙ task-word P t j k
+  pub task-at : (t j i : ℕ) → t < maxTasks → j < taskWords → i ≡ rankIndex t + j → getD words i 0 ≡ taskWord (taskAt (P .tasks) t) j
+  task-at t j i h k e = ap (λ (x : ℕ). getD words x 0) e ∙ word-at P (rankIndex t + j) (omega arith) ∙ task-word P t j k
 
   pub opens-at : (t : ℕ) → t < length (P .tasks) → Opens (P .ranks) (P .regions) (taskAt (P .tasks) t)
   opens-at t h = opens _ _ _ (and-true (openFits (P .ranks) (P .regions) (taskAt (P .tasks) t)) _ (every-at (taskFits (P .ranks) (P .regions)) (P .tasks) t noTask (L .tasks) h) .0)
 
   pub list-back : (t : ℕ) → t < length (P .tasks) →
-      tabulate (getD words (135 + 12 * t) 0) (λ a. accessOf (getD words (136 + 12 * t + a) 0)) ≡ taskAt (P .tasks) t .accesses
+      tabulate (getD words (accessesIndex t) 0) (λ a. accessOf (getD words (accessIndex t a) 0)) ≡ taskAt (P .tasks) t .accesses
   list-back t h =
       let l = taskAt (P .tasks) t .accesses in
       let o = opens-at t h in
       let f = few in
       let m : length (taskAt (P .tasks) t .accesses) ≤ 8 = leb-true _ _ (o .count) in
-      let c : getD words (135 + 12 * t) 0 ≡ length (taskAt (P .tasks) t .accesses) = task-at t 3 (135 + 12 * t) (omega arith) (omega arith) (omega arith) in
+      let c : getD words (accessesIndex t) 0 ≡ length (taskAt (P .tasks) t .accesses) = task-at t 3 (accessesIndex t) (omega arith) (omega arith) (omega arith) in
       rw c
-      (tabulate-ext (length (taskAt (P .tasks) t .accesses)) (λ a. accessOf (getD words (136 + 12 * t + a) 0)) (λ a. getD (taskAt (P .tasks) t .accesses) a noAccess)
-      (λ a k. ap accessOf (task-at t (suc (suc (suc (suc a)))) (136 + 12 * t + a) (omega arith) (omega arith) (omega arith))
+      (tabulate-ext (length (taskAt (P .tasks) t .accesses)) (λ a. accessOf (getD words (accessIndex t a) 0)) (λ a. getD (taskAt (P .tasks) t .accesses) a noAccess)
+      (λ a k. ap accessOf (task-at t (suc (suc (suc (suc a)))) (accessIndex t a) (omega arith) (omega arith) (omega arith))
       ∙ accesses-back (P .regions) (taskAt (P .tasks) t .accesses) low (o .accesses) a (omega arith))
       ∙ tabulate-list (taskAt (P .tasks) t .accesses) noAccess)
 
@@ -97,9 +98,9 @@ module _ (P : Plan) (L : Limits P) where
   task-back t h =
       let f = few in
       task-same _ _ _ _ _ _ _ _
-      (task-at t 0 (132 + 12 * t) (omega arith) (omega arith) (omega arith))
-      (task-at t 1 (133 + 12 * t) (omega arith) (omega arith) (omega arith))
-      (task-at t 2 (134 + 12 * t) (omega arith) (omega arith) (omega arith))
+      (task-at t 0 (rankIndex t) (omega arith) (omega arith) (omega arith))
+      (task-at t 1 (kernelIndex t) (omega arith) (omega arith) (omega arith))
+      (task-at t 2 (constantIndex t) (omega arith) (omega arith) (omega arith))
       (list-back t h)
 
   tasks-back : tabulate (getD words 3 0) (taskOf words) ≡ P .tasks
@@ -134,7 +135,7 @@ module _ (P : Plan) (L : Limits P) where
       (ap (startsOf words 0) (word-at P 2 (omega arith)))
       tasks-back
 
-  pub start-value : (g : ℕ) → g < 128 → getD words (4 + g) 0 ≡ startAt (P .starts) g
+  pub start-value : (g : ℕ) → g < maxRegions → getD words (4 + g) 0 ≡ startAt (P .starts) g
   start-value g h = word-at P (4 + g) (omega arith) ∙ start-word P g h
 
   start-same : (g : ℕ) → startAt (startsOf words 0 (P .regions)) g ≡ startAt (P .starts) g

@@ -15,7 +15,9 @@ use Rattle.reading.specs.Reading.{accepted, readOf, refused}
 
 -- the plan on two ranks that the paper gives
 abbrev pub twoRanks : List ℕ
-twoRanks = 108 ∷ 111 ∷ 111 ∷ 112 ∷ 9 ∷ 50 ∷ 9 ∷ 50 ∷ 9 ∷ 50 ∷ 10 ∷ 115 ∷ 116 ∷ 97 ∷ 114 ∷ 116 ∷ 9 ∷ 48 ∷ 9 ∷ 53 ∷ 10 ∷ 98 ∷ 101 ∷ 103 ∷ 105 ∷ 110 ∷ 9 ∷ 48 ∷ 9 ∷ 49 ∷ 9 ∷ 49 ∷ 10 ∷ 105 ∷ 110 ∷ 111 ∷ 117 ∷ 116 ∷ 9 ∷ 48 ∷ 10 ∷ 101 ∷ 110 ∷ 100 ∷ 10 ∷ 98 ∷ 101 ∷ 103 ∷ 105 ∷ 110 ∷ 9 ∷ 49 ∷ 9 ∷ 49 ∷ 9 ∷ 48 ∷ 10 ∷ 105 ∷ 110 ∷ 9 ∷ 48 ∷ 10 ∷ 105 ∷ 110 ∷ 111 ∷ 117 ∷ 116 ∷ 9 ∷ 49 ∷ 10 ∷ 101 ∷ 110 ∷ 100 ∷ 10 ∷ []
+twoRanks = 108 ∷ 111 ∷ 111 ∷ 112 ∷ 9 ∷ 50 ∷ 9 ∷ 50 ∷ 9 ∷ 50 ∷ 10 ∷ 115 ∷ 116 ∷ 97 ∷ 114 ∷ 116 ∷ 9 ∷ 48 ∷ 9 ∷ 53 ∷ 10 ∷ 98 ∷ 101 ∷ 103 ∷ 105 ∷ 110 ∷ 9 ∷
+    48 ∷ 9 ∷ 49 ∷ 9 ∷ 49 ∷ 10 ∷ 105 ∷ 110 ∷ 111 ∷ 117 ∷ 116 ∷ 9 ∷ 48 ∷ 10 ∷ 101 ∷ 110 ∷ 100 ∷ 10 ∷ 98 ∷ 101 ∷ 103 ∷ 105 ∷ 110 ∷ 9 ∷ 49 ∷ 9 ∷ 49 ∷ 9 ∷
+    48 ∷ 10 ∷ 105 ∷ 110 ∷ 9 ∷ 48 ∷ 10 ∷ 105 ∷ 110 ∷ 111 ∷ 117 ∷ 116 ∷ 9 ∷ 49 ∷ 10 ∷ 101 ∷ 110 ∷ 100 ∷ 10 ∷ []
 
 abbrev pub twoRankWords : List ℕ
 twoRankWords =
@@ -28,12 +30,14 @@ unfolding readOf wordsOf tabulate numberOf wellFormed keywordOf mem suits transf
 two-ranks = refl
 
 -- K: a second `begin` before `end`
-second-begin : readOf (108 ∷ 111 ∷ 111 ∷ 112 ∷ 9 ∷ 50 ∷ 9 ∷ 50 ∷ 9 ∷ 50 ∷ 10 ∷ 98 ∷ 101 ∷ 103 ∷ 105 ∷ 110 ∷ 9 ∷ 48 ∷ 9 ∷ 49 ∷ 9 ∷ 49 ∷ 10 ∷ 98 ∷ 101 ∷ 103 ∷ 105 ∷ 110 ∷ 9 ∷ 49 ∷ 9 ∷ 49 ∷ 9 ∷ 48 ∷ 10 ∷ 101 ∷ 110 ∷ 100 ∷ 10 ∷ []) ≡ refused 4 3
+second-begin : readOf (108 ∷ 111 ∷ 111 ∷ 112 ∷ 9 ∷ 50 ∷ 9 ∷ 50 ∷ 9 ∷ 50 ∷ 10 ∷ 98 ∷ 101 ∷ 103 ∷ 105 ∷ 110 ∷ 9 ∷ 48 ∷ 9 ∷ 49 ∷ 9 ∷ 49 ∷ 10 ∷ 98 ∷ 101 ∷
+    103 ∷ 105 ∷ 110 ∷ 9 ∷ 49 ∷ 9 ∷ 49 ∷ 9 ∷ 48 ∷ 10 ∷ 101 ∷ 110 ∷ 100 ∷ 10 ∷ []) ≡ refused 4 3
 unfolding readOf numberOf wellFormed keywordOf mem
 second-begin = refl
 
 -- L: `in` 0 then `out` 0
-named-twice : readOf (108 ∷ 111 ∷ 111 ∷ 112 ∷ 9 ∷ 50 ∷ 9 ∷ 50 ∷ 9 ∷ 50 ∷ 10 ∷ 98 ∷ 101 ∷ 103 ∷ 105 ∷ 110 ∷ 9 ∷ 48 ∷ 9 ∷ 48 ∷ 9 ∷ 49 ∷ 10 ∷ 105 ∷ 110 ∷ 9 ∷ 48 ∷ 10 ∷ 111 ∷ 117 ∷ 116 ∷ 9 ∷ 48 ∷ 10 ∷ 101 ∷ 110 ∷ 100 ∷ 10 ∷ []) ≡ refused 6 4
+named-twice : readOf (108 ∷ 111 ∷ 111 ∷ 112 ∷ 9 ∷ 50 ∷ 9 ∷ 50 ∷ 9 ∷ 50 ∷ 10 ∷ 98 ∷ 101 ∷ 103 ∷ 105 ∷ 110 ∷ 9 ∷ 48 ∷ 9 ∷ 48 ∷ 9 ∷ 49 ∷ 10 ∷ 105 ∷ 110 ∷
+    9 ∷ 48 ∷ 10 ∷ 111 ∷ 117 ∷ 116 ∷ 9 ∷ 48 ∷ 10 ∷ 101 ∷ 110 ∷ 100 ∷ 10 ∷ []) ≡ refused 6 4
 unfolding readOf numberOf wellFormed keywordOf mem
 named-twice = refl
 

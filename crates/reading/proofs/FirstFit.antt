@@ -17,7 +17,8 @@ use Rattle.plan.specs.Layout.{bodyOf}
 use Rattle.plan.specs.Limits.{maxAccesses, maxBytes, maxKernel, maxPasses, maxRanks, maxRegions, maxTasks, maxTransfers}
 use Rattle.reading.specs.Laws.{Answers}
 use Rattle.reading.specs.Plan.{Access, Plan, Start, Task, named, readCount, started, wordsOf}
-use Rattle.reading.specs.Reading.{Reading, State, Step, accepted, atEnd, below, closed, first, isWord, lies, need, next, noTaskYet, onStep, opened, readFrom, readOf, refuse, refused, step, valueOf}
+use Rattle.reading.specs.Reading.{Reading, State, Step, accepted, atEnd, below, closed, first, isWord, lies}
+use Rattle.reading.specs.Reading.{need, next, noTaskYet, onStep, opened, readFrom, readOf, refuse, refused, step, valueOf}
 use Rattle.reading.specs.Refusals.{Fit, Last, begins, countOf, firstFit, fitAt, fitFrom, isBegin, isEnd, isOpen, lastFit, lastFrom, lastTask, noFit, startsSaid}
 use Rattle.reading.specs.Written.{accessRecords, line, records, startRecords, taskRecords, textFrom}
 use Rattle.reading.proofs.Accepted.{good, goodStep, step-good}

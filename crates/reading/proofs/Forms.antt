@@ -1,5 +1,5 @@
 -- Words in form are a plan's canonical ones, and these are in form.
-use Prim.Native.Nat.{ℕ, zero, suc, _+_, _-_, _*_, _/_, _%_, _≤_, _<_}
+use Prim.Native.Nat.{ℕ, zero, suc, _+_, _-_, _/_, _%_, _≤_, _<_}
 use mathlib.Core.Path.{_≡_, refl, sym, ap, _∙_, subst}
 use mathlib.Core.Bool.{Bool, true, false, not, cond, _||_}
 use mathlib.Core.List.{List, map, [], _∷_, _++_}
@@ -16,7 +16,9 @@ use Rattle.finite.proofs.Tabulate.{distinct-tabulate, distinct-tabulate-at, map
 use Rattle.finite.proofs.Tests.{and-intro, and-true, not-both}
 use Rattle.kernels.specs.Kernels.{suits}
 use Rattle.plan.specs.Form.{Words, accessOk, countsOk, restOk, taskOk, unusedOk, usedOk, valueOk, wordsOk}
-use Rattle.plan.specs.Layout.{accessAt, accessesOf, at, isRead, planWords, ranksOf, regionAt, regionsOf, tasksOf}
+use Rattle.plan.specs.Layout.{accessAt, accessesOf, at, constantOf, isRead, kernelOf, planWords, rankOf, ranksOf, regionAt, regionsOf, tasksOf}
+use Rattle.plan.specs.Layout.{rankIndex, kernelIndex, constantIndex, accessesIndex, accessIndex, taskWords, accessEnd}
+use Rattle.plan.specs.Limits.{maxPasses, maxRanks, maxRegions, maxTasks}
 use Rattle.reading.specs.Plan.{Access, accessOf, accessWord, modeOf, modeWord, named, noTask, planOf, readCount, readMode, startAt, startsOf, taskAt, taskOf, taskWord, wordAt, wordsOf}
 use Rattle.reading.specs.Valid.{accessFits, every, inWord, openFits, taskFits, valid}
 use Rattle.reading.proofs.Back.{start-word, task-word, word-at}
@@ -37,7 +39,7 @@ mode-word (suc zero) h = refl
 mode-word (suc (suc zero)) h = refl
 mode-word (suc (suc (suc n))) h = absurd (omega arith)
 
-access-word : (c : ℕ) → c < 384 → accessWord (accessOf c) ≡ c
+access-word : (c : ℕ) → c < accessEnd → accessWord (accessOf c) ≡ c
 access-word c h = rw (mode-word (c / 128) (omega arith)) (omega arith)
 
 pub mode-few : (m : Mode) → modeWord m ≤ 2
@@ -45,7 +47,7 @@ mode-few Mode.In = omega arith
 mode-few Mode.Out = omega arith
 mode-few Mode.Inout = omega arith
 
-access-few : (c : ℕ) → accessWord (accessOf c) < 384
+access-few : (c : ℕ) → accessWord (accessOf c) < accessEnd
 access-few c = omega (arith, mode-few (modeOf (c / 128)))
 
 pub none-word : (j : ℕ) → taskWord noTask j ≡ 0
@@ -78,20 +80,20 @@ module _ (w : List ℕ) (t : ℕ) where
 
   -- the tests of a task in use
   pub record Used : Type 0 where
-    pub rank : ltb (at w (132 + 12 * t)) (ranksOf w) ≡ true
-    pub kernel : leb (at w (133 + 12 * t)) 4 ≡ true
+    pub rank : ltb (rankOf w t) (ranksOf w) ≡ true
+    pub kernel : leb (kernelOf w t) 4 ≡ true
     pub count : leb (accessesOf w t) 8 ≡ true
     pub each : allBelow (accessesOf w t) (accessOk w t) ≡ true
-    pub suited : suits (at w (133 + 12 * t)) (countBelow (accessesOf w t) (isRead w t)) ≡ true
+    pub suited : suits (kernelOf w t) (countBelow (accessesOf w t) (isRead w t)) ≡ true
     pub tail : restOk w t ≡ true
 
   used : usedOk w t ≡ true → Used
   used h =
-      let u1 = and-true (ltb (at w (132 + 12 * t)) (ranksOf w)) _ h in
-      let u2 = and-true (leb (at w (133 + 12 * t)) 4) _ (u1 .1) in
+      let u1 = and-true (ltb (rankOf w t) (ranksOf w)) _ h in
+      let u2 = and-true (leb (kernelOf w t) 4) _ (u1 .1) in
       let u3 = and-true (leb (accessesOf w t) 8) _ (u2 .1) in
       let u4 = and-true (allBelow (accessesOf w t) (accessOk w t)) _ (u3 .1) in
-      let u5 = and-true (suits (at w (133 + 12 * t)) (countBelow (accessesOf w t) (isRead w t))) (restOk w t) (u4 .1) in
+      let u5 = and-true (suits (kernelOf w t) (countBelow (accessesOf w t) (isRead w t))) (restOk w t) (u4 .1) in
       record { rank = u1 .0; kernel = u2 .0; count = u3 .0; each = u4 .0; suited = u5 .0; tail = u5 .1 }
 
   is-used : Used → usedOk w t ≡ true
@@ -99,18 +101,18 @@ module _ (w : List ℕ) (t : ℕ) where
 
   -- what an access in use is
   pub record Named (a : ℕ) : Type 0 where
-    pub code : ltb (accessAt w t a) 384 ≡ true
+    pub code : ltb (accessAt w t a) accessEnd ≡ true
     pub region : ltb (regionAt w t a) (regionsOf w) ≡ true
     pub before : allBelow a (λ b. not (eqb (regionAt w t b) (regionAt w t a))) ≡ true
 
   access-named : Used → (a : ℕ) → a < accessesOf w t → Named a
   access-named u a h =
       let e = all-at (accessOk w t) (accessesOf w t) a (u .each) h in
-      let n1 = and-true (ltb (accessAt w t a) 384) _ e in
+      let n1 = and-true (ltb (accessAt w t a) accessEnd) _ e in
       let n2 = and-true (ltb (regionAt w t a) (regionsOf w)) _ (n1 .1) in
       record { code = n1 .0; region = n2 .0; before = n2 .1 }
 
-  task-ok : Used → inWord (at w (134 + 12 * t)) ≡ true → taskFits (ranksOf w) (regionsOf w) (taskOf w t) ≡ true
+  task-ok : Used → inWord (constantOf w t) ≡ true → taskFits (ranksOf w) (regionsOf w) (taskOf w t) ≡ true
   task-ok u c =
       and-intro (openFits (ranksOf w) (regionsOf w) (taskOf w t)) _
       (is-open (ranksOf w) (regionsOf w) (taskOf w t)
@@ -126,7 +128,7 @@ module _ (w : List ℕ) (t : ℕ) where
       }))
       (rw reads-same (u .suited))
 
-  used-ok : taskFits (ranksOf w) (regionsOf w) (taskOf w t) ≡ true → ((a : ℕ) → a < accessesOf w t → accessAt w t a < 384) →
+  used-ok : taskFits (ranksOf w) (regionsOf w) (taskOf w t) ≡ true → ((a : ℕ) → a < accessesOf w t → accessAt w t a < accessEnd) →
       ((a : ℕ) → accessesOf w t ≤ a → a < 8 → accessAt w t a ≡ 0) → Used
   used-ok h code tail =
       let b = and-true (openFits (ranksOf w) (regionsOf w) (taskOf w t)) _ h in
@@ -139,7 +141,7 @@ module _ (w : List ℕ) (t : ℕ) where
         count = rw len at (o .count);
         each = all-of (accessOk w t) (accessesOf w t)
             (λ a k.
-            and-intro (ltb (accessAt w t a) 384) _ (lt-ltb _ _ (code a k))
+            and-intro (ltb (accessAt w t a) accessEnd) _ (lt-ltb _ _ (code a k))
             (and-intro (ltb (regionAt w t a) (regionsOf w)) _ (below (o .accesses) a k)
             (all-of (λ x. not (eqb (regionAt w t x) (regionAt w t a))) a
             (λ x m. rw (distinct-tabulate-at (accessesOf w t) (regionAt w t) x a d m k)))));
@@ -169,15 +171,15 @@ module _ (w : List ℕ) (t : ℕ) where
       ∙ List·getD-eq-default (tabulate (accessesOf w t) (λ a. accessWord (accessOf (accessAt w t a)))) 0
       (let len = length-tabulate (λ a. accessWord (accessOf (accessAt w t a))) (accessesOf w t) in omega arith)
 
-  used-word : Used → (j : ℕ) → j < 12 → taskWord (taskOf w t) j ≡ getD w (132 + 12 * t + j) 0
-  used-word u zero h = let e : 132 + 12 * t ≡ 132 + 12 * t + 0 = omega arith in ap (at w) e
-  used-word u (suc zero) h = let e : 133 + 12 * t ≡ 132 + 12 * t + 1 = omega arith in ap (at w) e
-  used-word u (suc (suc zero)) h = let e : 134 + 12 * t ≡ 132 + 12 * t + 2 = omega arith in ap (at w) e
+  used-word : Used → (j : ℕ) → j < taskWords → taskWord (taskOf w t) j ≡ getD w (rankIndex t + j) 0
+  used-word u zero h = let e : rankIndex t ≡ rankIndex t + 0 = omega arith in ap (at w) e
+  used-word u (suc zero) h = let e : kernelIndex t ≡ rankIndex t + 1 = omega arith in ap (at w) e
+  used-word u (suc (suc zero)) h = let e : constantIndex t ≡ rankIndex t + 2 = omega arith in ap (at w) e
   used-word u (suc (suc (suc zero))) h =
-      let e : 135 + 12 * t ≡ 132 + 12 * t + 3 = omega arith in
+      let e : accessesIndex t ≡ rankIndex t + 3 = omega arith in
       length-tabulate (λ a. accessOf (accessAt w t a)) (accessesOf w t) ∙ ap (at w) e
   used-word u (suc (suc (suc (suc a)))) h =
-      let e : 136 + 12 * t + a ≡ 132 + 12 * t + suc (suc (suc (suc a))) = omega arith in
+      let e : accessIndex t a ≡ rankIndex t + suc (suc (suc (suc a))) = omega arith in
       go (ltb a (accessesOf w t)) refl ∙ ap (at w) e
     where
       go : (x : Bool) → ltb a (accessesOf w t) ≡ x → getD (map accessWord (taskOf w t .accesses)) a 0 ≡ accessAt w t a
@@ -190,27 +192,27 @@ module _ (w : List ℕ) (t : ℕ) where
 
 -- the tests of a plan
 pub record Tests (w : List ℕ) : Type 0 where
-  pub passes : leb (at w 0) 1000000 ≡ true
+  pub passes : leb (at w 0) maxPasses ≡ true
   pub some-rank : leb 1 (ranksOf w) ≡ true
-  pub ranks : leb (ranksOf w) 16 ≡ true
+  pub ranks : leb (ranksOf w) maxRanks ≡ true
   pub some-region : leb 1 (regionsOf w) ≡ true
-  pub regions : leb (regionsOf w) 128 ≡ true
+  pub regions : leb (regionsOf w) maxRegions ≡ true
   pub some-task : leb 1 (tasksOf w) ≡ true
-  pub tasks : leb (tasksOf w) 128 ≡ true
-  pub values : allBelow 128 (valueOk w) ≡ true
-  pub each : allBelow 128 (taskOk w) ≡ true
+  pub tasks : leb (tasksOf w) maxTasks ≡ true
+  pub values : allBelow maxRegions (valueOk w) ≡ true
+  pub each : allBelow maxTasks (taskOk w) ≡ true
 
 pub tests : (w : List ℕ) → wordsOk w ≡ true → Tests w
 unfolding wordsOk
 tests w h =
     let a = and-true (countsOk w) _ h in
-    let b = and-true (allBelow 128 (valueOk w)) (allBelow 128 (taskOk w)) (a .1) in
-    let v1 = and-true (leb (at w 0) 1000000) _ (a .0) in
+    let b = and-true (allBelow maxRegions (valueOk w)) (allBelow maxTasks (taskOk w)) (a .1) in
+    let v1 = and-true (leb (at w 0) maxPasses) _ (a .0) in
     let v2 = and-true (leb 1 (ranksOf w)) _ (v1 .1) in
-    let v3 = and-true (leb (ranksOf w) 16) _ (v2 .1) in
+    let v3 = and-true (leb (ranksOf w) maxRanks) _ (v2 .1) in
     let v4 = and-true (leb 1 (regionsOf w)) _ (v3 .1) in
-    let v5 = and-true (leb (regionsOf w) 128) _ (v4 .1) in
-    let v6 = and-true (leb 1 (tasksOf w)) (leb (tasksOf w) 128) (v5 .1) in
+    let v5 = and-true (leb (regionsOf w) maxRegions) _ (v4 .1) in
+    let v6 = and-true (leb 1 (tasksOf w)) (leb (tasksOf w) maxTasks) (v5 .1) in
     record {
       passes = v1 .0;
       some-rank = v2 .0;
@@ -231,13 +233,13 @@ is-ok w t = rw (t .passes, t .some-rank, t .ranks, t .some-region, t .regions, t
 module _ (w : List ℕ) (W : Words w) (T : Tests w) where
   in-use : (t : ℕ) → t < at w 3 → Used w t
   in-use t h =
-      let k : at w 3 ≤ 128 = leb-true _ _ (T .tasks) in
-      used w t (rw (lt-ltb t (tasksOf w) h) at (all-at (taskOk w) 128 t (T .each) (omega arith)))
+      let k : at w 3 ≤ maxTasks = leb-true _ _ (T .tasks) in
+      used w t (rw (lt-ltb t (tasksOf w) h) at (all-at (taskOk w) maxTasks t (T .each) (omega arith)))
 
-  not-in-use : (t j : ℕ) → t < 128 → at w 3 ≤ t → j < 12 → at w (132 + 12 * t + j) ≡ 0
+  not-in-use : (t j : ℕ) → t < maxTasks → at w 3 ≤ t → j < taskWords → at w (rankIndex t + j) ≡ 0
   not-in-use t j h k l =
-      let e : unusedOk w t ≡ true = rw (le-ltb t (tasksOf w) k) at (all-at (taskOk w) 128 t (T .each) h) in
-      eqb-true _ _ (all-at (λ j. eqb (at w (132 + 12 * t + j)) 0) 12 j e l)
+      let e : unusedOk w t ≡ true = rw (le-ltb t (tasksOf w) k) at (all-at (taskOk w) maxTasks t (T .each) h) in
+      eqb-true _ _ (all-at (λ j. eqb (at w (rankIndex t + j)) 0) taskWords j e l)
 
   plan-limits : Limits (planOf w)
   unfolding planOf
@@ -251,13 +253,13 @@ module _ (w : List ℕ) (W : Words w) (T : Tests w) where
         starts = starts-every w (regionsOf w) 0 (regionsOf w) (omega arith) (λ x h. le-leb _ _ (W .fits (4 + x)));
         once = starts-once w 0 (regionsOf w);
         count = rw (length-tabulate (taskOf w) (tasksOf w)) (T .tasks);
-        tasks = every-tabulate (taskFits (ranksOf w) (regionsOf w)) (taskOf w) (tasksOf w) (λ t k. task-ok w t (in-use t k) (le-leb _ _ (W .fits (134 + 12 * t))));
+        tasks = every-tabulate (taskFits (ranksOf w) (regionsOf w)) (taskOf w) (tasksOf w) (λ t k. task-ok w t (in-use t k) (le-leb _ _ (W .fits (constantIndex t))));
       }
 
-  task-part : (t j : ℕ) → t < 128 → j < 12 → taskWord (taskAt (tabulate (tasksOf w) (taskOf w)) t) j ≡ at w (132 + 12 * t + j)
+  task-part : (t j : ℕ) → t < maxTasks → j < taskWords → taskWord (taskAt (tabulate (tasksOf w) (taskOf w)) t) j ≡ at w (rankIndex t + j)
   task-part t j h k = go (ltb t (tasksOf w)) refl
     where
-      go : (x : Bool) → ltb t (tasksOf w) ≡ x → taskWord (taskAt (tabulate (tasksOf w) (taskOf w)) t) j ≡ at w (132 + 12 * t + j)
+      go : (x : Bool) → ltb t (tasksOf w) ≡ x → taskWord (taskAt (tabulate (tasksOf w) (taskOf w)) t) j ≡ at w (rankIndex t + j)
       go true e =
           let l : t < at w 3 = ltb-true _ _ e in
           ap (λ x. taskWord x j) (getD-tabulate (taskOf w) (tasksOf w) t noTask l) ∙ used-word w t (in-use t l) j k
@@ -267,7 +269,7 @@ module _ (w : List ℕ) (W : Words w) (T : Tests w) where
           ap (λ x. taskWord x j) (List·getD-eq-default (tabulate (tasksOf w) (taskOf w)) noTask (let m : length (tabulate (tasksOf w) (taskOf w)) ≤ t = omega arith in m))
           ∙ none-word j ∙ sym (not-in-use t j h l k)
 
-  start-part : (g : ℕ) → g < 128 → startAt (startsOf w 0 (regionsOf w)) g ≡ at w (4 + g)
+  start-part : (g : ℕ) → g < maxRegions → startAt (startsOf w 0 (regionsOf w)) g ≡ at w (4 + g)
   start-part g h = go (ltb g (regionsOf w)) refl
     where
       go : (x : Bool) → ltb g (regionsOf w) ≡ x → startAt (startsOf w 0 (regionsOf w)) g ≡ at w (4 + g)
@@ -275,23 +277,24 @@ module _ (w : List ℕ) (W : Words w) (T : Tests w) where
       go false e =
           let l : at w 2 ≤ g = ltb-false _ _ e in
           starts-out w 0 (regionsOf w) g (λ y a b c. omega arith)
-          ∙ sym (eqb-true _ _ (or-right (ltb g (regionsOf w)) _ (all-at (valueOk w) 128 g (T .values) h) e))
+          ∙ sym (eqb-true _ _ (or-right (ltb g (regionsOf w)) _ (all-at (valueOk w) maxRegions g (T .values) h) e))
 
-  word-part : (i : ℕ) → i < 1668 → wordAt (planOf w) i ≡ at w i
+  word-part : (i : ℕ) → i < planWords → wordAt (planOf w) i ≡ at w i
   unfolding planOf
   word-part zero h = refl
   word-part (suc zero) h = refl
   word-part (suc (suc zero)) h = refl
   word-part (suc (suc (suc zero))) h = length-tabulate (taskOf w) (tasksOf w)
-  word-part (suc (suc (suc (suc i)))) h = go (ltb i 128) refl
+  word-part (suc (suc (suc (suc i)))) h = go (ltb i maxRegions) refl
     where
-      go : (x : Bool) → ltb i 128 ≡ x →
-          cond x (startAt (startsOf w 0 (regionsOf w)) i) (taskWord (taskAt (tabulate (tasksOf w) (taskOf w)) ((i - 128) / 12)) ((i - 128) % 12)) ≡ at w (suc (suc (suc (suc i))))
+      go : (x : Bool) → ltb i maxRegions ≡ x →
+          cond x (startAt (startsOf w 0 (regionsOf w)) i)
+          (taskWord (taskAt (tabulate (tasksOf w) (taskOf w)) ((i - maxRegions) / taskWords)) ((i - maxRegions) % taskWords)) ≡ at w (suc (suc (suc (suc i))))
       go true e = let q : 4 + i ≡ suc (suc (suc (suc i))) = omega arith in start-part i (ltb-true _ _ e) ∙ ap (at w) q
       go false e =
-          let l : 128 ≤ i = ltb-false _ _ e in
-          let q : 132 + 12 * ((i - 128) / 12) + (i - 128) % 12 ≡ suc (suc (suc (suc i))) = omega arith in
-          task-part ((i - 128) / 12) ((i - 128) % 12) (omega arith) (omega arith) ∙ ap (at w) q
+          let l : maxRegions ≤ i = ltb-false _ _ e in
+          let q : rankIndex ((i - maxRegions) / taskWords) + (i - maxRegions) % taskWords ≡ suc (suc (suc (suc i))) = omega arith in
+          task-part ((i - maxRegions) / taskWords) ((i - maxRegions) % taskWords) (omega arith) (omega arith) ∙ ap (at w) q
 
   words-same : wordsOf (planOf w) ≡ w
   unfolding wordsOf
@@ -318,11 +321,11 @@ module _ (w : List ℕ) (S : Said w) where
   L : Limits (planOf w)
   L = limits (planOf w) (S .valids)
 
-  word-is : (i : ℕ) → i < 1668 → at w i ≡ wordAt (planOf w) i
+  word-is : (i : ℕ) → i < planWords → at w i ≡ wordAt (planOf w) i
   word-is i h = ap (λ (l : List ℕ). getD l i 0) (sym (S .words)) ∙ word-at (planOf w) i h
 
-  task-is : (t j i : ℕ) → t < 128 → j < 12 → i ≡ 132 + 12 * t + j → at w i ≡ taskWord (taskAt (planOf w .tasks) t) j
-  task-is t j i h k e = ap (at w) e ∙ word-is (132 + 12 * t + j) (omega arith) ∙ task-word (planOf w) t j k
+  task-is : (t j i : ℕ) → t < maxTasks → j < taskWords → i ≡ rankIndex t + j → at w i ≡ taskWord (taskAt (planOf w .tasks) t) j
+  task-is t j i h k e = ap (at w) e ∙ word-is (rankIndex t + j) (omega arith) ∙ task-word (planOf w) t j k
 
   used-is : (t : ℕ) → t < at w 3 → taskAt (planOf w .tasks) t ≡ taskOf w t
   unfolding planOf
@@ -334,9 +337,9 @@ module _ (w : List ℕ) (S : Said w) where
       let len = length-tabulate (taskOf w) (tasksOf w) in
       List·getD-eq-default (tabulate (tasksOf w) (taskOf w)) noTask (let m : length (tabulate (tasksOf w) (taskOf w)) ≤ t = omega arith in m)
 
-  tasks-few : at w 3 ≤ 128
+  tasks-few : at w 3 ≤ maxTasks
   unfolding planOf
-  tasks-few = let l : length (tabulate (tasksOf w) (taskOf w)) ≤ 128 = leb-true _ _ (L .count) in omega (arith, length-tabulate (taskOf w) (tasksOf w))
+  tasks-few = let l : length (tabulate (tasksOf w) (taskOf w)) ≤ maxTasks = leb-true _ _ (L .count) in omega (arith, length-tabulate (taskOf w) (tasksOf w))
 
   task-fine : (t : ℕ) → t < at w 3 → taskFits (ranksOf w) (regionsOf w) (taskOf w t) ≡ true
   unfolding planOf
@@ -347,7 +350,7 @@ module _ (w : List ℕ) (S : Said w) where
   access-is : (t a : ℕ) → t < at w 3 → a < 8 → accessAt w t a ≡ getD (map accessWord (taskOf w t .accesses)) a 0
   access-is t a h k =
       let f = tasks-few in
-      task-is t (suc (suc (suc (suc a)))) (136 + 12 * t + a) (omega arith) (omega arith) (omega arith)
+      task-is t (suc (suc (suc (suc a)))) (accessIndex t a) (omega arith) (omega arith) (omega arith)
       ∙ ap (λ x. taskWord x (suc (suc (suc (suc a))))) (used-is t h)
 
   accesses-few : (t : ℕ) → t < at w 3 → accessesOf w t ≤ 8
@@ -356,7 +359,7 @@ module _ (w : List ℕ) (S : Said w) where
       let m : length (taskOf w t .accesses) ≤ 8 = leb-true _ _ (o .count) in
       omega (arith, length-tabulate (λ a. accessOf (accessAt w t a)) (accessesOf w t))
 
-  each-is : (t : ℕ) → t < 128 → (x : Bool) → ltb t (tasksOf w) ≡ x → cond x (usedOk w t) (unusedOk w t) ≡ true
+  each-is : (t : ℕ) → t < maxTasks → (x : Bool) → ltb t (tasksOf w) ≡ x → cond x (usedOk w t) (unusedOk w t) ≡ true
   each-is t h true e =
       let l : t < at w 3 = ltb-true _ _ e in
       let f = accesses-few t l in
@@ -365,10 +368,10 @@ module _ (w : List ℕ) (S : Said w) where
       (λ a k m. access-is t a l m ∙ access-past w t a k))
   each-is t h false e =
       let l : at w 3 ≤ t = ltb-false _ _ e in
-      all-of (λ j. eqb (at w (132 + 12 * t + j)) 0) 12
-      (λ j k. eq-eqb _ _ (task-is t j (132 + 12 * t + j) h k refl ∙ ap (λ x. taskWord x j) (none-is t l) ∙ none-word j))
+      all-of (λ j. eqb (at w (rankIndex t + j)) 0) taskWords
+      (λ j k. eq-eqb _ _ (task-is t j (rankIndex t + j) h k refl ∙ ap (λ x. taskWord x j) (none-is t l) ∙ none-word j))
 
-  value-is : (g : ℕ) → g < 128 → (x : Bool) → ltb g (regionsOf w) ≡ x → (x || eqb (at w (4 + g)) 0) ≡ true
+  value-is : (g : ℕ) → g < maxRegions → (x : Bool) → ltb g (regionsOf w) ≡ x → (x || eqb (at w (4 + g)) 0) ≡ true
   value-is g h true e = refl
   value-is g h false e = eq-eqb _ _ (word-is (4 + g) (omega arith) ∙ start-word (planOf w) g h ∙ past)
     where
@@ -389,8 +392,8 @@ module _ (w : List ℕ) (S : Said w) where
         regions = L .regions;
         some-task = rw (length-tabulate (taskOf w) (tasksOf w)) at (S .some);
         tasks = le-leb _ _ tasks-few;
-        values = all-of (valueOk w) 128 (λ g h. value-is g h (ltb g (regionsOf w)) refl);
-        each = all-of (taskOk w) 128 (λ t h. each-is t h (ltb t (tasksOf w)) refl);
+        values = all-of (valueOk w) maxRegions (λ g h. value-is g h (ltb g (regionsOf w)) refl);
+        each = all-of (taskOk w) maxTasks (λ t h. each-is t h (ltb t (tasksOf w)) refl);
       }
 
 pub canonical-ok : (w : List ℕ) → canonical w ≡ true → wordsOk w ≡ true

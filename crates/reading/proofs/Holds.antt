@@ -7,9 +7,9 @@ use lib.Dec.{eqb}
 use mathlib.Core.Bool.{Bool, true, false, cond, not}
 use mathlib.Core.List.{List, [], _∷_, _++_}
 use native.Mathlib.Omega.{arith}
-use Prim.Native.Nat.{ℕ, zero, suc, _+_, _*_, _/_, _≤_, _<_}
+use Prim.Native.Nat.{ℕ, zero, suc, _/_, _≤_, _<_}
 use Rattle.finite.specs.Lists.{gather, tabulate}
-use Rattle.plan.specs.Layout.{accessAt, accessesOf, isRead, isWritten, regionAt}
+use Rattle.plan.specs.Layout.{accessAt, accessesOf, isRead, isWritten, regionAt, rankIndex, kernelIndex, constantIndex, accessesIndex, accessIndex}
 use Rattle.reading.specs.Laws.{Holds}
 use Rattle.reading.specs.Plan.{Access, Plan, accessOf, accessWord, modeOf, readMode, regionsWhere, taskAt, wordsOf, writeMode}
 use Rattle.reading.specs.Valid.{accessFits}
@@ -60,7 +60,7 @@ module _ (P : Plan) (L : Limits P) where
   count-few i h =
       let m : length (taskAt (P .tasks) i .accesses) ≤ 8 = leb-true _ _ (opens-at P L i h .count) in
       let k = few P L in
-      let c : accessesOf w i ≡ length (taskAt (P .tasks) i .accesses) = task-at P L i 3 (135 + 12 * i) (omega arith) (omega arith) (omega arith) in
+      let c : accessesOf w i ≡ length (taskAt (P .tasks) i .accesses) = task-at P L i 3 (accessesIndex i) (omega arith) (omega arith) (omega arith) in
       omega arith
 
   code-low : (i a : ℕ) → i < length (P .tasks) → a < accessesOf w i → accessAt w i a / 128 < 3
@@ -68,10 +68,10 @@ module _ (P : Plan) (L : Limits P) where
       let f = few P L in
       let m = count-few i h in
       let l = low P L in
-      let c : accessesOf w i ≡ length (taskAt (P .tasks) i .accesses) = task-at P L i 3 (135 + 12 * i) (omega arith) (omega arith) (omega arith) in
+      let c : accessesOf w i ≡ length (taskAt (P .tasks) i .accesses) = task-at P L i 3 (accessesIndex i) (omega arith) (omega arith) (omega arith) in
       let x = getD (taskAt (P .tasks) i .accesses) a noAccess in
       let e : accessAt w i a ≡ accessWord (getD (taskAt (P .tasks) i .accesses) a noAccess) =
-      task-at P L i (suc (suc (suc (suc a)))) (136 + 12 * i + a) (omega arith) (omega arith) (omega arith) ∙ List·getD-map accessWord (taskAt (P .tasks) i .accesses) a noAccess in
+      task-at P L i (suc (suc (suc (suc a)))) (accessIndex i a) (omega arith) (omega arith) (omega arith) ∙ List·getD-map accessWord (taskAt (P .tasks) i .accesses) a noAccess in
       let r : getD (taskAt (P .tasks) i .accesses) a noAccess .region < P .regions =
       ltb-true _ _ (every-at (accessFits (P .regions)) (taskAt (P .tasks) i .accesses) a noAccess (opens-at P L i h .accesses) (omega arith)) in
       omega (arith, mode-few (getD (taskAt (P .tasks) i .accesses) a noAccess .mode))
@@ -86,9 +86,9 @@ module _ (P : Plan) (L : Limits P) where
         regions = word-at P 2 (omega arith);
         starting = λ g h. start-value P L g (omega arith);
         tasks = word-at P 3 (omega arith);
-        rank = λ i h. task-at P L i 0 (132 + 12 * i) (omega arith) (omega arith) (omega arith);
-        kernel = λ i h. task-at P L i 1 (133 + 12 * i) (omega arith) (omega arith) (omega arith);
-        constant = λ i h. task-at P L i 2 (134 + 12 * i) (omega arith) (omega arith) (omega arith);
+        rank = λ i h. task-at P L i 0 (rankIndex i) (omega arith) (omega arith) (omega arith);
+        kernel = λ i h. task-at P L i 1 (kernelIndex i) (omega arith) (omega arith) (omega arith);
+        constant = λ i h. task-at P L i 2 (constantIndex i) (omega arith) (omega arith) (omega arith);
         accesses = λ i h. list-back P L i h;
         reads = λ i h. chosen readMode (isRead (wordsOf P) i) i h (λ a k. read-mode (accessAt (wordsOf P) i a / 128));
         writes = λ i h. chosen writeMode (isWritten (wordsOf P) i) i h (λ a k. write-mode (accessAt (wordsOf P) i a / 128) (code-low i a h k));

@@ -1,36 +1,37 @@
 -- A valid plan's limits, one by one.
-use Prim.Native.Nat.{ℕ, _-_}
+use Prim.Native.Nat.{ℕ}
 use mathlib.Core.Path.{_≡_}
 use mathlib.Core.Bool.{true}
 use lib.Dec.{leb, ltb}
 use lib.ListN.{length}
 use Rattle.finite.specs.Lists.{distinct}
 use Rattle.finite.proofs.Tests.{and-true}
+use Rattle.plan.specs.Limits.{maxPasses, maxRanks, maxRegions, maxTasks}
 use Rattle.reading.specs.Plan.{Plan, Task, named, started}
 use Rattle.reading.specs.Valid.{accessFits, every, inWord, openFits, startFits, taskFits, valid}
 
 pub record Limits (P : Plan) : Type 0 where
-  pub passes : leb (P .passes) 1000000 ≡ true
+  pub passes : leb (P .passes) maxPasses ≡ true
   pub some-rank : leb 1 (P .ranks) ≡ true
-  pub ranks : leb (P .ranks) 16 ≡ true
+  pub ranks : leb (P .ranks) maxRanks ≡ true
   pub some-region : leb 1 (P .regions) ≡ true
-  pub regions : leb (P .regions) 128 ≡ true
+  pub regions : leb (P .regions) maxRegions ≡ true
   pub starts : every (startFits (P .regions)) (P .starts) ≡ true
   pub once : distinct (started (P .starts)) ≡ true
-  pub count : leb (length (P .tasks)) 128 ≡ true
+  pub count : leb (length (P .tasks)) maxTasks ≡ true
   pub tasks : every (taskFits (P .ranks) (P .regions)) (P .tasks) ≡ true
 
 pub limits : (P : Plan) → valid P ≡ true → Limits P
 unfolding valid
 limits P h =
-    let v1 = and-true (leb (P .passes) 1000000) _ h in
+    let v1 = and-true (leb (P .passes) maxPasses) _ h in
     let v2 = and-true (leb 1 (P .ranks)) _ (v1 .1) in
-    let v3 = and-true (leb (P .ranks) 16) _ (v2 .1) in
+    let v3 = and-true (leb (P .ranks) maxRanks) _ (v2 .1) in
     let v4 = and-true (leb 1 (P .regions)) _ (v3 .1) in
-    let v5 = and-true (leb (P .regions) 128) _ (v4 .1) in
+    let v5 = and-true (leb (P .regions) maxRegions) _ (v4 .1) in
     let v6 = and-true (every (startFits (P .regions)) (P .starts)) _ (v5 .1) in
     let v7 = and-true (distinct (started (P .starts))) _ (v6 .1) in
-    let v8 = and-true (leb (length (P .tasks)) 128) _ (v7 .1) in
+    let v8 = and-true (leb (length (P .tasks)) maxTasks) _ (v7 .1) in
     record {
       passes = v1 .0;
       some-rank = v2 .0;

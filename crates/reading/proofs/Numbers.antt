@@ -15,7 +15,8 @@ use Rattle.text.specs.Records.{recordOf, split}
 use Rattle.plan.specs.Layout.{bodyOf}
 use Rattle.plan.specs.Limits.{maxAccesses, maxBytes, maxKernel, maxPasses, maxRanks, maxRegions, maxTasks, maxTransfers}
 use Rattle.reading.specs.Plan.{named, readCount, started, wordsOf}
-use Rattle.reading.specs.Reading.{Reading, State, Step, accepted, atEnd, below, closed, first, isEmpty, isWord, lies, need, next, noTaskYet, onStep, opened, readFrom, readOf, refuse, refused, step, valueOf}
+use Rattle.reading.specs.Reading.{Reading, State, Step, accepted, atEnd, below, closed, first, isEmpty, isWord, lies}
+use Rattle.reading.specs.Reading.{need, next, noTaskYet, onStep, opened, readFrom, readOf, refuse, refused, step, valueOf}
 
 abbrev pub Known : ℕ → Type 0
 Known n = (1 ≤ n) × (n ≤ 10)

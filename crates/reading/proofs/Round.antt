@@ -11,7 +11,7 @@ use Rattle.finite.proofs.Tests.{and-true, not-both}
 use Rattle.body.specs.Transfers.{transferCount}
 use Rattle.text.proofs.WordLaws.{alike-same}
 use Rattle.plan.specs.Layout.{bodyOf}
-use Rattle.plan.specs.Limits.{maxBytes, maxTransfers}
+use Rattle.plan.specs.Limits.{maxBytes, maxTransfers, maxRegions, maxTasks}
 use Rattle.reading.specs.Plan.{Plan, planOf, wordsOf}
 use Rattle.reading.specs.Reading.{accepted, atEnd, closed, first, readOf}
 use Rattle.reading.specs.Valid.{valid}
@@ -35,17 +35,17 @@ said w h =
     let b = and-true (leb 1 (length (planOf w .tasks))) _ (a .1) in
     record { valids = a .0; some = b .0; words = alike-same _ _ (b .1) }
 
-few-starts : (w : List ℕ) → Limits (planOf w) → length (planOf w .starts) ≤ 128
+few-starts : (w : List ℕ) → Limits (planOf w) → length (planOf w .starts) ≤ maxRegions
 unfolding planOf
 few-starts w L =
-    let r : getD w 2 0 ≤ 128 = leb-true _ _ (L .regions) in
+    let r : getD w 2 0 ≤ maxRegions = leb-true _ _ (L .regions) in
     omega (arith, starts-length w 0 (getD w 2 0))
 
 pub short : (w : List ℕ) → canonical w ≡ true → length (textOf w) ≤ maxBytes
 unfolding textOf
 short w h =
     let L = limits (planOf w) (said w h .valids) in
-    let c : length (planOf w .tasks) ≤ 128 = leb-true _ _ (L .count) in
+    let c : length (planOf w .tasks) ≤ maxTasks = leb-true _ _ (L .count) in
     omega (arith, few-starts w L, records-short (planOf w) L .size)
 
 some-task : (k : ℕ) → leb 1 k ≡ true → eqb k 0 ≡ false

@@ -1,5 +1,5 @@
 -- The records of a valid plan lead to it.
-use Prim.Native.Nat.{ℕ, _+_, _-_, _≤_, _<_}
+use Prim.Native.Nat.{ℕ, _+_, _≤_, _<_}
 use mathlib.Core.Path.{_≡_, ap, _∙_}
 use mathlib.Core.Bool.{true, false}
 use mathlib.Core.List.{List, [], _∷_, _++_, append-assoc, append-nil}
@@ -16,6 +16,7 @@ use Rattle.kernels.specs.Kernels.{suits}
 use Rattle.text.specs.Records.{split}
 use Rattle.text.proofs.SplitLaws.{split-cons}
 use Rattle.plan.specs.Layout.{at}
+use Rattle.plan.specs.Limits.{maxPasses, maxRanks, maxRegions, maxTasks}
 use Rattle.reading.specs.Plan.{Access, Plan, Start, Task, named, readCount, started}
 use Rattle.reading.specs.Reading.{State, Step, atEnd, closed, first, next, onStep, opened, readFrom, refuse, step}
 use Rattle.reading.specs.Valid.{accessFits, every, inWord, openFits, startFits, taskFits, valid}
@@ -85,7 +86,7 @@ module _ (p q n : ℕ) where
       let i = run-accesses ss ts r k c (acc ++ (x ∷ [])) l b (a .1) (rw (append-assoc acc (x ∷ []) l) g) (rw (append-assoc acc (x ∷ []) l) d) in
       rw (a .0, lt-ltb (length acc) 8 w, m) (i ∙ rw (append-assoc acc (x ∷ []) l))
 
-  run-tasks : (ss : List Start) (acc l : List Task) → every (taskFits q n) l ≡ true → length (acc ++ l) ≤ 128 →
+  run-tasks : (ss : List Start) (acc l : List Task) → every (taskFits q n) l ≡ true → length (acc ++ l) ≤ maxTasks →
       run (closed (plan p q n ss acc)) (taskRecords l) ≡ next (closed (plan p q n ss (acc ++ l)))
   run-tasks ss acc [] h g = rw (append-nil acc)
   run-tasks ss acc (t ∷ l) h g =
@@ -96,22 +97,22 @@ module _ (p q n : ℕ) where
       let o3 = and-true (inWord (t .constant)) _ (o2 .1) in
       let o4 = and-true (leb (length (t .accesses)) 8) _ (o3 .1) in
       let o5 = and-true (every (accessFits n) (t .accesses)) (distinct (named (t .accesses))) (o4 .1) in
-      let w : length acc < 128 = omega (arith, length-append acc (t ∷ l)) in
+      let w : length acc < maxTasks = omega (arith, length-append acc (t ∷ l)) in
       let u = run-accesses ss acc (t .rank) (t .kernel) (t .constant) [] (t .accesses) (End ∷ taskRecords l) (o5 .0) (leb-true _ _ (o4 .0)) (o5 .1) in
       let i = run-tasks ss (acc ++ (t ∷ [])) l (a .1) (rw (append-assoc acc (t ∷ []) l) g) in
-      rw (o1 .0, leb·zero (t .kernel), o2 .0, leb·zero (t .constant), o3 .0, lt-ltb (length acc) 128 w) (u ∙ rw (o .1) (i ∙ rw (append-assoc acc (t ∷ []) l)))
+      rw (o1 .0, leb·zero (t .kernel), o2 .0, leb·zero (t .constant), o3 .0, lt-ltb (length acc) maxTasks w) (u ∙ rw (o .1) (i ∙ rw (append-assoc acc (t ∷ []) l)))
 
 pub run-records : (P : Plan) → valid P ≡ true → run first (records P) ≡ next (closed P)
 unfolding valid
 run-records P h =
-    let v1 = and-true (leb (P .passes) 1000000) _ h in
+    let v1 = and-true (leb (P .passes) maxPasses) _ h in
     let v2 = and-true (leb 1 (P .ranks)) _ (v1 .1) in
-    let v3 = and-true (leb (P .ranks) 16) _ (v2 .1) in
+    let v3 = and-true (leb (P .ranks) maxRanks) _ (v2 .1) in
     let v4 = and-true (leb 1 (P .regions)) _ (v3 .1) in
-    let v5 = and-true (leb (P .regions) 128) _ (v4 .1) in
+    let v5 = and-true (leb (P .regions) maxRegions) _ (v4 .1) in
     let v6 = and-true (every (startFits (P .regions)) (P .starts)) _ (v5 .1) in
     let v7 = and-true (distinct (started (P .starts))) _ (v6 .1) in
-    let v8 = and-true (leb (length (P .tasks)) 128) _ (v7 .1) in
+    let v8 = and-true (leb (length (P .tasks)) maxTasks) _ (v7 .1) in
     rw (leb·zero (P .passes), v1 .0, v2 .0, v3 .0, v4 .0, v5 .0)
     (run-starts (P .passes) (P .ranks) (P .regions) [] (P .starts) (taskRecords (P .tasks)) (v6 .0) (v7 .0)
     ∙ run-tasks (P .passes) (P .ranks) (P .regions) (P .starts) [] (P .tasks) (v8 .1) (leb-true _ _ (v8 .0)))

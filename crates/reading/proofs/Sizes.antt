@@ -1,5 +1,5 @@
 -- The written text is made of records that can be written, and is short.
-use Prim.Native.Nat.{ℕ, zero, suc, _+_, _-_, _*_, _/_, _%_, _≤_, _<_}
+use Prim.Native.Nat.{ℕ, zero, suc, _+_, _*_, _/_, _%_, _≤_, _<_}
 use mathlib.Core.Path.{_≡_, refl}
 use mathlib.Core.Bool.{Bool, true, false, cond, _&&_}
 use mathlib.Core.List.{List, [], _∷_, _++_}
@@ -13,6 +13,7 @@ use Rattle.text.specs.declared.Mode.{Mode}
 use Rattle.text.specs.declared.Record.{Record}
 use Rattle.text.specs.declared.Record.the-variants.{Loop, Begin, End}
 use Rattle.finite.proofs.Tests.{and-intro, and-true}
+use Rattle.plan.specs.Limits.{maxPasses, maxRanks, maxRegions, maxTasks, maxWord}
 use Rattle.reading.specs.Plan.{Access, Plan, Start, Task}
 use Rattle.reading.specs.Reading.{isWord}
 use Rattle.reading.specs.Valid.{accessFits, every, inWord, openFits, startFits, taskFits}
@@ -21,8 +22,8 @@ use Rattle.reading.proofs.Decimal.{digits-of}
 use Rattle.reading.proofs.Limits.{Limits, opens}
 use Rattle.reading.proofs.Lines.{plain}
 
-word-of : (v : ℕ) → v ≤ 18446744073709551615 → isWord (Value v) ≡ true
-word-of v h = and-intro (leb 0 v) (leb v 18446744073709551615) (leb·zero v) (le-leb v 18446744073709551615 h)
+word-of : (v : ℕ) → v ≤ maxWord → isWord (Value v) ≡ true
+word-of v h = and-intro (leb 0 v) (leb v maxWord) (leb·zero v) (le-leb v maxWord h)
 
 -- digits of a small number
 one : (k n : ℕ) → n < 10 → length (decimal k n) ≡ 1
@@ -47,7 +48,7 @@ short : (n : ℕ) → n < 1000 → length (digits (Value n)) ≤ 3
 unfolding digits
 short n h = three 17 n h
 
-long : (v : ℕ) → v ≤ 18446744073709551615 → length (digits (Value v)) ≤ 20
+long : (v : ℕ) → v ≤ maxWord → length (digits (Value v)) ≤ 20
 long v h = digits-of (Value v) (word-of v h) .most
 
 -- two and three numbers in a line
@@ -60,13 +61,13 @@ triple-length x y z = omega (arith, length-append (digits x) (9 ∷ (digits y ++
 text-length : (r : Record) (l : List Record) → length (textFrom (r ∷ l)) ≡ length (line r) + length (textFrom l) + 1
 text-length r l = omega (arith, length-append (line r) (10 ∷ textFrom l))
 
-start-length : (g v : ℕ) → g ≤ 18446744073709551615 → v ≤ 18446744073709551615 → length (line (Record.Start (Value g) (Value v))) ≤ 47
+start-length : (g v : ℕ) → g ≤ maxWord → v ≤ maxWord → length (line (Record.Start (Value g) (Value v))) ≤ 47
 start-length g v a b = omega (arith, pair-length (Value g) (Value v), long g a, long v b)
 
-loop-length : (p q n : ℕ) → p ≤ 18446744073709551615 → q ≤ 18446744073709551615 → n ≤ 18446744073709551615 → length (line (Loop (Value p) (Value q) (Value n))) ≤ 67
+loop-length : (p q n : ℕ) → p ≤ maxWord → q ≤ maxWord → n ≤ maxWord → length (line (Loop (Value p) (Value q) (Value n))) ≤ 67
 loop-length p q n a b c = omega (arith, triple-length (Value p) (Value q) (Value n), long p a, long q b, long n c)
 
-begin-length : (q k c : ℕ) → q ≤ 18446744073709551615 → k ≤ 18446744073709551615 → c ≤ 18446744073709551615 → length (line (Begin (Value q) (Value k) (Value c))) ≤ 68
+begin-length : (q k c : ℕ) → q ≤ maxWord → k ≤ maxWord → c ≤ maxWord → length (line (Begin (Value q) (Value k) (Value c))) ≤ 68
 begin-length q k c a b d = omega (arith, triple-length (Value q) (Value k) (Value c), long q a, long k b, long c d)
 
 access-length : (m : Mode) (g : ℕ) → g < 1000 → length (line (Record.Access m (Value g))) ≤ 9
@@ -79,13 +80,13 @@ pub record Short (most : ℕ) (l : List Record) : Type 0 where
   pub plains : every plain l ≡ true
   pub size : length (textFrom l) ≤ most
 
-starts-short : (n : ℕ) (l : List Start) (b : List Record) (m : ℕ) → n ≤ 128 → every (startFits n) l ≡ true → Short m b → Short (48 * length l + m) (startRecords l ++ b)
+starts-short : (n : ℕ) (l : List Start) (b : List Record) (m : ℕ) → n ≤ maxRegions → every (startFits n) l ≡ true → Short m b → Short (48 * length l + m) (startRecords l ++ b)
 starts-short n [] b m h k s = record { plains = s .plains; size = omega (arith, s .size) }
 starts-short n (x ∷ l) b m h k s =
     let a = and-true (startFits n x) (every (startFits n) l) k in
     let e = and-true (ltb (x .region) n) (inWord (x .value)) (a .0) in
     let c : x .region < n = ltb-true _ _ (e .0) in
-    let v : x .value ≤ 18446744073709551615 = leb-true _ _ (e .1) in
+    let v : x .value ≤ maxWord = leb-true _ _ (e .1) in
     let i = starts-short n l b m h (a .1) s in
     let z = start-length (x .region) (x .value) (omega arith) v in
     record {
@@ -93,7 +94,7 @@ starts-short n (x ∷ l) b m h k s =
       size = omega (arith, text-length (Record.Start (Value (x .region)) (Value (x .value))) (startRecords l ++ b), z, i .size);
     }
 
-accesses-short : (n : ℕ) (l : List Access) (b : List Record) (m : ℕ) → n ≤ 128 → every (accessFits n) l ≡ true → Short m b → Short (10 * length l + m) (accessRecords l ++ b)
+accesses-short : (n : ℕ) (l : List Access) (b : List Record) (m : ℕ) → n ≤ maxRegions → every (accessFits n) l ≡ true → Short m b → Short (10 * length l + m) (accessRecords l ++ b)
 accesses-short n [] b m h k s = record { plains = s .plains; size = omega (arith, s .size) }
 accesses-short n (x ∷ l) b m h k s =
     let a = and-true (accessFits n x) (every (accessFits n) l) k in
@@ -108,14 +109,14 @@ accesses-short n (x ∷ l) b m h k s =
 end-short : (l : List Record) (m : ℕ) → Short m l → Short (4 + m) (End ∷ l)
 end-short l m s = record { plains = s .plains; size = omega (arith, text-length End l, s .size) }
 
-tasks-short : (q n : ℕ) (l : List Task) → q ≤ 16 → n ≤ 128 → every (taskFits q n) l ≡ true → Short (153 * length l) (taskRecords l)
+tasks-short : (q n : ℕ) (l : List Task) → q ≤ maxRanks → n ≤ maxRegions → every (taskFits q n) l ≡ true → Short (153 * length l) (taskRecords l)
 tasks-short q n [] h g k = record { plains = refl; size = omega arith }
 tasks-short q n (t ∷ l) h g k =
     let a = and-true (taskFits q n t) (every (taskFits q n) l) k in
     let o = opens q n t (and-true (openFits q n t) _ (a .0) .0) in
     let r : t .rank < q = ltb-true _ _ (o .rank) in
     let f : t .kernel ≤ 4 = leb-true _ _ (o .kernel) in
-    let c : t .constant ≤ 18446744073709551615 = leb-true _ _ (o .constant) in
+    let c : t .constant ≤ maxWord = leb-true _ _ (o .constant) in
     let m : length (t .accesses) ≤ 8 = leb-true _ _ (o .count) in
     let i = accesses-short n (t .accesses) (End ∷ taskRecords l) (4 + 153 * length l) g (o .accesses) (end-short (taskRecords l) (153 * length l) (tasks-short q n l h g (a .1))) in
     let z = begin-length (t .rank) (t .kernel) (t .constant) (omega arith) (omega arith) c in
@@ -130,10 +131,10 @@ tasks-short q n (t ∷ l) h g k =
 
 pub records-short : (P : Plan) → Limits P → Short (68 + (48 * length (P .starts) + 153 * length (P .tasks))) (records P)
 records-short P L =
-    let p : P .passes ≤ 1000000 = leb-true _ _ (L .passes) in
-    let q : P .ranks ≤ 16 = leb-true _ _ (L .ranks) in
-    let n : P .regions ≤ 128 = leb-true _ _ (L .regions) in
-    let c : length (P .tasks) ≤ 128 = leb-true _ _ (L .count) in
+    let p : P .passes ≤ maxPasses = leb-true _ _ (L .passes) in
+    let q : P .ranks ≤ maxRanks = leb-true _ _ (L .ranks) in
+    let n : P .regions ≤ maxRegions = leb-true _ _ (L .regions) in
+    let c : length (P .tasks) ≤ maxTasks = leb-true _ _ (L .count) in
     let i = starts-short (P .regions) (P .starts) (taskRecords (P .tasks)) (153 * length (P .tasks)) n (L .starts) (tasks-short (P .ranks) (P .regions) (P .tasks) q n (L .tasks)) in
     let z = loop-length (P .passes) (P .ranks) (P .regions) (omega arith) (omega arith) (omega arith) in
     record {

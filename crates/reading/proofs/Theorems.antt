@@ -13,8 +13,8 @@ use Rattle.finite.proofs.Lists.{length-tabulate}
 use Rattle.finite.proofs.Tests.{and-intro, and-true}
 use Rattle.body.specs.Transfers.{transferCount}
 use Rattle.plan.specs.Form.{Words, inForm, wordsOk}
-use Rattle.plan.specs.Layout.{bodyOf, planWords}
-use Rattle.plan.specs.Limits.{maxTransfers}
+use Rattle.plan.specs.Layout.{bodyOf, planWords, taskWords}
+use Rattle.plan.specs.Limits.{maxTransfers, maxPasses, maxRanks, maxRegions, maxTasks, maxWord}
 use Rattle.plan.proofs.Facts.{fits}
 use Rattle.plan.proofs.Zeros.{zeros}
 use Rattle.reading.specs.Laws.{Laws}
@@ -44,7 +44,7 @@ every-open q n (t ∷ l) h =
     let a = and-true (taskFits q n t) (every (taskFits q n) l) h in
     rw (and-true (openFits q n t) _ (a .0) .0) (every-open q n l (a .1))
 
-task-fits : (q n : ℕ) (t : Task) → q ≤ 16 → 1 ≤ n → n ≤ 128 → Opens q n t → (j : ℕ) → taskWord t j ≤ 18446744073709551615
+task-fits : (q n : ℕ) (t : Task) → q ≤ maxRanks → 1 ≤ n → n ≤ maxRegions → Opens q n t → (j : ℕ) → taskWord t j ≤ maxWord
 task-fits q n t h k m o zero = let r : t .rank < q = ltb-true _ _ (o .rank) in omega arith
 task-fits q n t h k m o (suc zero) = let r : t .kernel ≤ 4 = leb-true _ _ (o .kernel) in omega arith
 task-fits q n t h k m o (suc (suc zero)) = leb-true _ _ (o .constant)
@@ -54,18 +54,18 @@ task-fits q n t h k m o (suc (suc (suc (suc a)))) =
     let r : getD (t .accesses) a noAccess .region < n = ltb-true _ _ (every-any (accessFits n) (t .accesses) a noAccess (o .accesses) (lt-ltb 0 n k)) in
     omega (arith, e, r, mode-few (getD (t .accesses) a noAccess .mode))
 
-pub words-size : (P : Plan) → length (wordsOf P) ≡ 1668
+pub words-size : (P : Plan) → length (wordsOf P) ≡ planWords
 unfolding wordsOf
 words-size P = length-tabulate (wordAt P) planWords
 
 module _ (P : Plan) (L : Limits P) where
-  word-fits : (i : ℕ) → wordAt P i ≤ 18446744073709551615
+  word-fits : (i : ℕ) → wordAt P i ≤ maxWord
   unfolding distinct
-  word-fits zero = let r : P .passes ≤ 1000000 = leb-true _ _ (L .passes) in omega arith
-  word-fits (suc zero) = let r : P .ranks ≤ 16 = leb-true _ _ (L .ranks) in omega arith
-  word-fits (suc (suc zero)) = let r : P .regions ≤ 128 = leb-true _ _ (L .regions) in omega arith
-  word-fits (suc (suc (suc zero))) = let r : length (P .tasks) ≤ 128 = leb-true _ _ (L .count) in omega arith
-  word-fits (suc (suc (suc (suc i)))) = go (ltb i 128)
+  word-fits zero = let r : P .passes ≤ maxPasses = leb-true _ _ (L .passes) in omega arith
+  word-fits (suc zero) = let r : P .ranks ≤ maxRanks = leb-true _ _ (L .ranks) in omega arith
+  word-fits (suc (suc zero)) = let r : P .regions ≤ maxRegions = leb-true _ _ (L .regions) in omega arith
+  word-fits (suc (suc (suc zero))) = let r : length (P .tasks) ≤ maxTasks = leb-true _ _ (L .count) in omega arith
+  word-fits (suc (suc (suc (suc i)))) = go (ltb i maxRegions)
     where
       some : 1 ≤ P .ranks
       some = leb-true _ _ (L .some-rank)
@@ -77,19 +77,19 @@ module _ (P : Plan) (L : Limits P) where
       open-at t = opens (P .ranks) (P .regions) (taskAt (P .tasks) t)
           (every-any (openFits (P .ranks) (P .regions)) (P .tasks) t noTask (every-open (P .ranks) (P .regions) (P .tasks) (L .tasks)) (is-open (P .ranks) (P .regions) noTask none))
 
-      go : (x : Bool) → cond x (startAt (P .starts) i) (taskWord (taskAt (P .tasks) ((i - 128) / 12)) ((i - 128) % 12)) ≤ 18446744073709551615
+      go : (x : Bool) → cond x (startAt (P .starts) i) (taskWord (taskAt (P .tasks) ((i - maxRegions) / taskWords)) ((i - maxRegions) % taskWords)) ≤ maxWord
       go true = leb-true _ _ (start-fits (P .regions) i (P .starts) (L .starts))
       go false =
-          task-fits (P .ranks) (P .regions) (taskAt (P .tasks) ((i - 128) / 12)) (leb-true _ _ (L .ranks)) (leb-true _ _ (L .some-region)) (leb-true _ _ (L .regions))
-          (open-at ((i - 128) / 12)) ((i - 128) % 12)
+          task-fits (P .ranks) (P .regions) (taskAt (P .tasks) ((i - maxRegions) / taskWords)) (leb-true _ _ (L .ranks)) (leb-true _ _ (L .some-region)) (leb-true _ _ (L .regions))
+          (open-at ((i - maxRegions) / taskWords)) ((i - maxRegions) % taskWords)
 
-  words-fit : (i : ℕ) → getD (wordsOf P) i 0 ≤ 18446744073709551615
-  words-fit i = go (ltb i 1668) refl
+  words-fit : (i : ℕ) → getD (wordsOf P) i 0 ≤ maxWord
+  words-fit i = go (ltb i planWords) refl
     where
-      go : (x : Bool) → ltb i 1668 ≡ x → getD (wordsOf P) i 0 ≤ 18446744073709551615
+      go : (x : Bool) → ltb i planWords ≡ x → getD (wordsOf P) i 0 ≤ maxWord
       go true e = omega (arith, word-at P i (ltb-true _ _ e), word-fits i)
       go false e =
-          let l : 1668 ≤ i = ltb-false _ _ e in
+          let l : planWords ≤ i = ltb-false _ _ e in
           let z : getD (wordsOf P) i 0 ≡ 0 = List·getD-eq-default (wordsOf P) 0 (let m : length (wordsOf P) ≤ i = omega (arith, words-size P) in m) in
           omega arith
 

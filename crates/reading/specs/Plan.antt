@@ -6,7 +6,8 @@ use lib.ListN.{length, getD}
 use lib.Dec.{eqb, ltb}
 use Rattle.text.specs.declared.Mode.{Mode}
 use Rattle.finite.specs.Lists.{tabulate}
-use Rattle.plan.specs.Layout.{planWords, passesOf, ranksOf, regionsOf, tasksOf, startingOf, rankOf, kernelOf, constantOf, accessesOf, accessAt}
+use Rattle.plan.specs.Layout.{planWords, passesOf, ranksOf, regionsOf, tasksOf, startingOf, rankOf, kernelOf, constantOf, accessesOf, accessAt, taskWords}
+use Rattle.plan.specs.Limits.{maxRegions}
 
 -- a `start` record
 pub record Start : Type 0 where
@@ -96,7 +97,7 @@ wordAt P (suc zero) = P .ranks
 wordAt P (suc (suc zero)) = P .regions
 wordAt P (suc (suc (suc zero))) = length (P .tasks)
 wordAt P (suc (suc (suc (suc i)))) =
-    cond (ltb i 128) (startAt (P .starts) i) (taskWord (taskAt (P .tasks) ((i - 128) / 12)) ((i - 128) % 12))
+    cond (ltb i maxRegions) (startAt (P .starts) i) (taskWord (taskAt (P .tasks) ((i - maxRegions) / taskWords)) ((i - maxRegions) % taskWords))
 
 unfoldable pub wordsOf : Plan → List ℕ
 wordsOf P = tabulate planWords (wordAt P)

@@ -1,7 +1,8 @@
 // Reading all of standard input, in as many pieces as it comes.
 ghost use Rattle.io.specs.Counts.{Counts};
 
-// How many bytes were read, and whether the input was read whole: up to its end, or up to the end of the buffer.
+// How many bytes were read, and whether the input was read whole: up to its end, or up to the end
+// of the buffer.
 pub(crate) struct Got {
     pub(crate) whole: bool,
     pub(crate) bytes: usize,

@@ -1,5 +1,6 @@
-// Lines of output, put into a lent buffer one after another. Each function answers the offset behind what it put; what there is no room for is
-// left out, and the buffer has room for every plan's lines.
+// Lines of output, put into a lent buffer one after another. Each function answers the offset
+// behind what it put; what there is no room for is left out, and the buffer has room for every
+// plan's lines.
 
 fn put_byte(out: &mut [u8], at: usize, byte: u8) -> usize {
     if at < out.len() {

@@ -1,20 +1,29 @@
-// Reads a plan from standard input, runs it to its end and prints its items, its edges, the number of steps, and the value of each region; of a
-// refused text the refusal and the line. Output that is closed ends the program.
+// Reads a plan from standard input, runs it to its end and prints its items, its edges, the number
+// of steps, and the value of each region; of a refused text the refusal and the line. Output that
+// is closed ends the program.
 mod input;
 mod lines;
 
-use graph::EDGE_WORDS;
-use graph::MAX_ITEMS;
 use input::read_text;
 use lines::put;
 use lines::put_end;
 use lines::put_field;
 use lines::write;
-use plan::limits::PLAN_WORDS;
-use taskiter::COUNTS;
-use taskiter::VALUES;
+use plan::code::SEND;
+use plan::code::TASK;
+use plan::code::item_kind;
+use plan::code::item_rank;
+use plan::layout::PLAN_WORDS;
+use plan::layout::REGIONS;
+use plan::numbers::wide_16;
+use plan::state::COUNTS;
+use plan::state::EDGE_WORDS;
+use plan::state::MAX_ITEMS;
+use plan::state::RESULTS;
+use plan::state::VALUES;
 
-// Longer than the lines of any plan: 640 items of at most 20 bytes, 4,224 edges of 15, one line of steps, and 128 values of 31.
+// Longer than the lines of any plan's items and edges, of at most 20 and 15 bytes, and than those
+// of its steps and values, of at most 31.
 const ROOM: usize = 98304;
 
 fn code_at(table: &[u16], k: usize) -> u64 {
@@ -31,21 +40,24 @@ fn number_at(list: &[u32], k: usize) -> u64 {
     0
 }
 
-fn wide_16(x: u16) -> u64 {
-    x as u64
-}
-
 fn wide_32(x: u32) -> u64 {
     x as u64
 }
 
+fn word_at(words: &[u64], k: usize) -> u64 {
+    if k < words.len() {
+        return words[k];
+    }
+    0
+}
+
 // The kind of an item, from its number in the item table.
 fn put_kind(out: &mut [u8], at: usize, code: u64) -> usize {
-    let kind = code / 128 % 4;
-    if kind == 0 {
+    let kind = item_kind(code);
+    if kind == TASK {
         return put(out, at, b" task");
     }
-    if kind == 1 {
+    if kind == SEND {
         return put(out, at, b" send");
     }
     put(out, at, b" receive")
@@ -55,7 +67,7 @@ fn put_item(out: &mut [u8], at: usize, item: u64, code: u64) -> usize {
     let head = put(out, at, b"item");
     let number = put_field(out, head, item);
     let kind = put_kind(out, number, code);
-    let rank = put_field(out, kind, code / 512);
+    let rank = put_field(out, kind, item_rank(code));
     put_end(out, rank)
 }
 
@@ -100,43 +112,48 @@ fn put_value(out: &mut [u8], at: usize, region: u64, word: u64) -> usize {
     put_end(out, value)
 }
 
-fn put_values(
-    out: &mut [u8],
-    at: usize,
-    plan: &[u64],
-    counts: &[u32],
-    values: &[u64],
-    regions: u64,
-) -> usize {
+fn put_values(out: &mut [u8], at: usize, results: &[u64], regions: u64) -> usize {
     let mut to = at;
     for region in 0..regions {
-        let answer = taskiter::taskiter_result(plan, counts, values, region);
-        to = put_value(out, to, region, answer.word);
+        to = put_value(out, to, region, word_at(results, region as usize));
     }
     to
 }
 
 // The items and edges of a plan; answers whether they could be written.
-fn print_graph(out: &mut [u8], plan: &[u64]) -> bool {
-    let mut table = [0u16; MAX_ITEMS];
-    let mut list = [0u32; EDGE_WORDS];
-    let items = taskiter::taskiter_items(plan, &mut table);
-    let edges = taskiter::taskiter_edges(plan, &mut list);
-    let to = put_items(out, 0, &table, items.number);
-    let end = put_edges(out, to, &list, edges.number);
+fn print_graph(out: &mut [u8], table: &[u16], items: u64, list: &[u32], edges: u64) -> bool {
+    let to = put_items(out, 0, table, items);
+    let end = put_edges(out, to, list, edges);
     write(out, end)
 }
 
-// The steps and values of a plan, which is run to its end.
-fn print_run(out: &mut [u8], plan: &[u64], regions: u64) {
-    let mut counts = [0u32; COUNTS];
-    let mut values = [0u64; VALUES];
-    let ran = taskiter::run(plan, &mut counts, &mut values);
+// The steps that a run took, and the value of each region.
+fn print_end(out: &mut [u8], steps: u64, results: &[u64], regions: u64) {
     let head = put(out, 0, b"steps");
-    let steps = put_field(out, head, ran.number);
-    let to = put_end(out, steps);
-    let end = put_values(out, to, plan, &counts, &values, regions);
+    let number = put_field(out, head, steps);
+    let to = put_end(out, number);
+    let end = put_values(out, to, results, regions);
     write(out, end);
+}
+
+// Runs a plan to its end and prints it.
+fn run_plan(out: &mut [u8], plan: &[u64], regions: u64) {
+    let mut table = [0u16; MAX_ITEMS];
+    let mut list = [0u32; EDGE_WORDS];
+    let mut counts = [0; COUNTS];
+    let mut values = [0u64; VALUES];
+    let mut results = [0u64; RESULTS];
+    let ran = taskiter::run(
+        plan,
+        &mut table,
+        &mut list,
+        &mut counts,
+        &mut values,
+        &mut results,
+    );
+    if print_graph(out, &table, ran.items, &list, ran.edges) {
+        print_end(out, ran.steps, &results, regions);
+    }
 }
 
 fn print_refusal(out: &mut [u8], refusal: u64, line: u64) {
@@ -154,10 +171,8 @@ fn run_text(out: &mut [u8], text: &[u8]) {
         print_refusal(out, answer.refusal, answer.line);
         return;
     }
-    let regions = plan[2];
-    if print_graph(out, &plan) {
-        print_run(out, &plan, regions);
-    }
+    let regions = plan[REGIONS];
+    run_plan(out, &plan, regions);
 }
 
 fn main() {

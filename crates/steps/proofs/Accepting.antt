@@ -24,7 +24,8 @@ use Rattle.plan.specs.Layout.{planWords}
 use Rattle.graph.specs.Answers.{refusalOf, longPlan, formedPlan, planBody, isItem}
 use Rattle.graph.proofs.Small.{plan-fits, plan-small}
 use Rattle.steps.specs.State.{countWords, valueWords, stateOf}
-use Rattle.steps.specs.Answers.{Left, countOk, isComplete, startTests, finishTests, resultTests, longSlices, formedCounts, callRefusal, unless, opened, openOf, started, startOf, finished, finishOf, shown, resultOf}
+use Rattle.steps.specs.Answers.{Left, countOk, isComplete, startTests, finishTests, resultTests, longSlices, formedCounts, callRefusal, unless}
+use Rattle.steps.specs.Answers.{opened, openOf, started, startOf, finished, finishOf, shown, resultOf}
 use Rattle.steps.specs.Calls.{Call, start, finish, result, Lent, call}
 
 -- the tests, as facts
@@ -193,12 +194,15 @@ module _ (plan counts values : List ℕ) where
 
   pub open-opened : longSlices plan counts values ≡ true → formedPlan plan ≡ true → openOf plan counts values ≡ opened plan counts values
   unfolding openOf
-  open-opened l f = unless-none (refusalOf (longSlices plan counts values) (formedPlan plan) true) (opened plan counts values) (none-refusal (longSlices plan counts values) (formedPlan plan) true l f refl)
+  open-opened l f =
+      unless-none (refusalOf (longSlices plan counts values) (formedPlan plan) true) (opened plan counts values)
+      (none-refusal (longSlices plan counts values) (formedPlan plan) true l f refl)
 
   pub open-accepted : (openOf plan counts values .refusal ≡ 0) ↔ ((longSlices plan counts values ≡ true) × (formedPlan plan ≡ true))
   unfolding openOf
   open-accepted = (
-    λ h. let r = refusal-none (longSlices plan counts values) (formedPlan plan) true (unless-accepted (refusalOf (longSlices plan counts values) (formedPlan plan) true) (opened plan counts values) h .0) in (r .0, r .1),
+    λ h. let r = refusal-none (longSlices plan counts values) (formedPlan plan) true
+        (unless-accepted (refusalOf (longSlices plan counts values) (formedPlan plan) true) (opened plan counts values) h .0) in (r .0, r .1),
     λ h. ap (λ (x : Left). x .refusal) (open-opened (h .0) (h .1)),
   )
 

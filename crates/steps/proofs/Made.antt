@@ -21,6 +21,7 @@ use Rattle.body.specs.Places.{slot, copy, initial, system, resultFrom, resultOf
 use Rattle.body.specs.Meaning.{LastWriter}
 use Rattle.body.proofs.Writers.{last-writer}
 use Rattle.body.proofs.Places.{copy-below, copy-opening, slot-opening}
+use Rattle.plan.specs.Sizes.{maxItems}
 use Rattle.plan.specs.Layout.{planWords}
 use Rattle.graph.specs.Answers.{formedPlan, planBody}
 use Rattle.graph.proofs.Small.{plan-fits}
@@ -64,7 +65,7 @@ module _ (plan counts values : List ℕ) where
     open-form : formedPlan plan ≡ true
     open-form = open-accepted plan counts values .0 h .1
 
-    open-few : itemCount (planBody plan) ≤ 640
+    open-few : itemCount (planBody plan) ≤ maxItems
     open-few = items-few (take planWords plan) open-form
 
     open-fits : Fits (planBody plan)

@@ -17,6 +17,7 @@ use Rattle.body.specs.Places.{slot, copy, initial, system}
 use Rattle.body.proofs.Places.{copy-below, slot-opening}
 use Rattle.edges.specs.Tests.{kindAt, rankAt}
 use Rattle.edges.proofs.Touches.{Place, of-copy, of-send, of-receive, place-of, rank-below, receive-kind}
+use Rattle.plan.specs.Sizes.{maxItems}
 use Rattle.plan.specs.Layout.{bodyOf}
 use Rattle.plan.specs.Form.{inForm}
 use Rattle.graph.proofs.Small.{plan-fits}
@@ -47,8 +48,8 @@ module _ (B : Body) where
   slot-is : (a : ℕ) → a < itemCount B → kindAt B a ≡ 1 → isSlot B (slot a) ≡ true
   unfolding slot
   slot-is a l k =
-      let e : 2048 + a - 2048 ≡ a = omega arith in
-      rw (le-leb 2048 (2048 + a) (omega arith), lt-ltb (2048 + a) (2048 + itemCount B) (omega arith), e, eq-eqb (kindAt B a) 1 k)
+      let e : firstSlot + a - firstSlot ≡ a = omega arith in
+      rw (le-leb firstSlot (firstSlot + a) (omega arith), lt-ltb (firstSlot + a) (firstSlot + itemCount B) (omega arith), e, eq-eqb (kindAt B a) 1 k)
 
   pub copy-opened : (q g : ℕ) → q < B .ranks → g < B .regions → (isCopy B (copy B q g) || (isSlot B (copy B q g) || isHeld B (copy B q g))) ≡ true
   copy-opened q g lq lg = rw (lt-ltb (copy B q g) (B .ranks * B .regions) (copy-below B q g lq lg))
@@ -96,12 +97,12 @@ module _ (B : Body) where
 
       slotted : isSlot B x ≡ true → P
       slotted e =
-          let p = and-true (leb 2048 x) _ e in
-          let q = and-true (ltb x (2048 + itemCount B)) (eqb (kindAt B (x - 2048)) 1) (p .1) in
-          let r = send-from (x - 2048) (eqb-true (kindAt B (x - 2048)) 1 (q .1)) in
-          let l = leb-true 2048 x (p .0) in
-          let k = ltb-true x (2048 + itemCount B) (q .0) in
-          t (x - 2048) (r .0) (r .1) (r .2) (omega arith) (r .3) (omega arith)
+          let p = and-true (leb firstSlot x) _ e in
+          let q = and-true (ltb x (firstSlot + itemCount B)) (eqb (kindAt B (x - firstSlot)) 1) (p .1) in
+          let r = send-from (x - firstSlot) (eqb-true (kindAt B (x - firstSlot)) 1 (q .1)) in
+          let l = leb-true firstSlot x (p .0) in
+          let k = ltb-true x (firstSlot + itemCount B) (q .0) in
+          t (x - firstSlot) (r .0) (r .1) (r .2) (omega arith) (r .3) (omega arith)
 
       held : isHeld B x ≡ true → P
       held e =
@@ -140,10 +141,10 @@ module _ (B : Body) where
 
   pub held-opening : Fits B → (a : ℕ) → initial B (firstHeld + a) ≡ 0
   unfolding slot
-  held-opening F a = let e : firstHeld + a ≡ 2048 + (640 + a) = omega arith in ap (initial B) e ∙ slot-opening B F (640 + a)
+  held-opening F a = let e : firstHeld + a ≡ firstSlot + (maxItems + a) = omega arith in ap (initial B) e ∙ slot-opening B F (maxItems + a)
 
 module _ (w : List ℕ) (formed : inForm w ≡ true) where
-  pub items-few : itemCount (bodyOf w) ≤ 640
+  pub items-few : itemCount (bodyOf w) ≤ maxItems
   items-few = laws .items w formed
 
   pub place-below : (a x : ℕ) → a < itemCount (bodyOf w) → Accesses (system (bodyOf w)) a x → x < firstHeld

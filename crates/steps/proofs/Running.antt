@@ -24,6 +24,7 @@ use Rattle.body.specs.Places.{system, resultOf as regionResult}
 use Rattle.edges.specs.Tests.{edgeTest, metTest, waitsTest}
 use Rattle.edges.specs.Rule.{WaitsMet}
 use Rattle.edges.proofs.Decided.{waits-decided}
+use Rattle.plan.specs.Sizes.{maxItems}
 use Rattle.plan.specs.Layout.{planWords, bodyOf}
 use Rattle.plan.specs.Form.{inForm}
 use Rattle.graph.specs.Answers.{refusalOf, longPlan, formedPlan, planBody}
@@ -98,7 +99,7 @@ module _ (plan : List ℕ) (s : Lent) where
   tied-idle σ t h = record { long-counts = t .long-counts; long-values = t .long-values; formed = t .formed; idle = h }
 
 module _ (plan : List ℕ) (long : planWords ≤ length plan) (formed : formedPlan plan ≡ true) where
-  few : itemCount (planBody plan) ≤ 640
+  few : itemCount (planBody plan) ≤ maxItems
   few = items-few (take planWords plan) formed
 
   module _ (s : Lent) (I : Idle plan s) where
@@ -226,7 +227,8 @@ module _ (plan : List ℕ) (long : planWords ≤ length plan) (formed : formedPl
   none-ready s I n (result g) z h = not-both z refl
 
   pub going-turn : (s₀ s : Lent) (steps : ℕ) → Going plan s₀ s steps → (a : ℕ) → a < itemCount (planBody plan) → isReady (planBody plan) (s .counts) a ≡ true →
-      ((b : ℕ) → b < a → isReady (planBody plan) (s .counts) b ≡ false) → Going plan s₀ (lentBy (finished plan (started plan (s .counts) (s .values) a .counts) (started plan (s .counts) (s .values) a .values) a)) (steps + 2)
+      ((b : ℕ) → b < a → isReady (planBody plan) (s .counts) b ≡ false) →
+      Going plan s₀ (lentBy (finished plan (started plan (s .counts) (s .values) a .counts) (started plan (s .counts) (s .values) a .values) a)) (steps + 2)
   going-turn s₀ s steps G a la ready lowest =
       record {
         calls = (G .calls ++ (start a ∷ [])) ++ (finish a ∷ []);

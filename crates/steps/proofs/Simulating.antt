@@ -22,6 +22,7 @@ use Rattle.unroll.proofs.Local.{local}
 use Rattle.unroll.proofs.Runs.{can-accepts, cannot-refuses, can-steps, can-counts, reply-some, reply-none}
 use Rattle.body.specs.Items.{itemCount}
 use Rattle.body.specs.Places.{initial, system}
+use Rattle.plan.specs.Sizes.{maxItems}
 use Rattle.plan.specs.Layout.{planWords}
 use Rattle.graph.specs.Answers.{formedPlan, planBody}
 use Rattle.graph.proofs.Small.{plan-fits}
@@ -74,7 +75,7 @@ module _ (passes : ℕ) (s t : State) where
       (λ b ne e f k. formed-same b f e k)
 
 module _ (plan : List ℕ) (formed : formedPlan plan ≡ true) (counts values : List ℕ) (long-counts : countWords ≤ length counts) (long-values : valueWords ≤ length values) where
-  few : itemCount (planBody plan) ≤ 640
+  few : itemCount (planBody plan) ≤ maxItems
   few = items-few (take planWords plan) formed
 
   -- opening
@@ -109,7 +110,8 @@ module _ (plan : List ℕ) (formed : formedPlan plan ≡ true) (counts values : 
   module _ (a : ℕ) (la : a < itemCount (planBody plan)) where
     -- start
 
-    pub start-agree : Agree (system (planBody plan)) (stateOf (started plan counts values a .counts) (started plan counts values a .values)) (startState (system (planBody plan)) (stateOf counts values) a)
+    pub start-agree : Agree (system (planBody plan)) (stateOf (started plan counts values a .counts) (started plan counts values a .values))
+        (startState (system (planBody plan)) (stateOf counts values) a)
     unfolding startState update
     start-agree =
         record {
@@ -128,7 +130,8 @@ module _ (plan : List ℕ) (formed : formedPlan plan ≡ true) (counts values : 
         getD (finished plan counts values a .values) x 0 ≡ cond (mem x (system (planBody plan) .writes a)) (getD values (firstHeld + a) 0) (getD values x 0)
     finish-value x l = replaced-at (λ x. mem x (system (planBody plan) .writes a)) (λ x. getD values (firstHeld + a) 0) values x l
 
-    pub finish-agree : Agree (system (planBody plan)) (stateOf (finished plan counts values a .counts) (finished plan counts values a .values)) (finishState (system (planBody plan)) (stateOf counts values) a)
+    pub finish-agree : Agree (system (planBody plan)) (stateOf (finished plan counts values a .counts) (finished plan counts values a .values))
+        (finishState (system (planBody plan)) (stateOf counts values) a)
     unfolding finishState update put
     finish-agree =
         record {
@@ -201,7 +204,8 @@ module _ (plan : List ℕ) where
           long-counts = omega (arith, t .long-counts, length-set (s .counts) (firstFinished + a) (suc (getD (s .counts) (firstFinished + a) 0)));
           long-values = omega (arith, t .long-values, length-replaced (λ x. mem x (system (planBody plan) .writes a)) (λ x. getD (s .values) (firstHeld + a) 0) (s .values));
           formed = formed-counts plan (finished plan (s .counts) (s .values) a .counts) (finished plan (s .counts) (s .values) a .values) .1
-              (λ b l. formed-finish (planBody plan .passes) (stateOf (s .counts) (s .values)) (stateOf (finished plan (s .counts) (s .values) a .counts) (finished plan (s .counts) (s .values) a .values))
+              (λ b l. formed-finish (planBody plan .passes) (stateOf (s .counts) (s .values))
+              (stateOf (finished plan (s .counts) (s .values) a .counts) (finished plan (s .counts) (s .values) a .values))
               a (k .running) b (g .finished b l) (g .started b l) (formed-counts plan (s .counts) (s .values) .0 (t .formed) b l));
           agree = g;
         }

@@ -1,23 +1,12 @@
 -- The state that a host lends (paper 01, "Steps"; docs/LAYOUT.md), as a state of the machine of the crate unroll.
---   counts: a the started passes of item a, 640 + a its finished passes.
---   values: the places by their numbers, which are the copies and from 2,048 on the slots; 2,688 + a the word that item a holds.
+--   counts: a the started passes of item a, firstFinished + a its finished passes.
+--   values: the places by their numbers, which are the copies and from firstSlot on the slots; firstHeld + a the word that item a holds.
 use Prim.Native.Nat.{ℕ, _+_}
 use mathlib.Core.List.{List}
 use lib.ListN.{getD}
 use Rattle.unroll.specs.Machine.{State}
-
--- the sizes of the lent slices
-abbrev pub countWords : ℕ
-countWords = 1280
-
-abbrev pub valueWords : ℕ
-valueWords = 3328
-
-abbrev pub firstFinished : ℕ
-firstFinished = 640
-
-abbrev pub firstHeld : ℕ
-firstHeld = 2688
+-- the sizes of the lent slices, and where things stand in them
+pub use Rattle.plan.specs.Sizes.{countWords, valueWords, firstFinished, firstHeld}
 
 abbrev pub stateOf : List ℕ → List ℕ → State
 stateOf counts values =

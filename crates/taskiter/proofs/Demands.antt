@@ -26,7 +26,8 @@ use Rattle.graph.proofs.Small.{form-words, plan-fits}
 use Rattle.steps.specs.State.{countWords, valueWords}
 use Rattle.steps.specs.Answers.{openOf}
 use Rattle.steps.specs.Calls.{lentBy, play}
-use Rattle.steps.proofs.Accepting.{long-slices, Clear, open-short, open-unchanged, open-accepted, start-clear, start-rule, finish-clear, finish-can, result-clear, result-complete, every-short, every-unchanged}
+use Rattle.steps.proofs.Accepting.{long-slices, Clear, open-short, open-unchanged, open-accepted, start-clear}
+use Rattle.steps.proofs.Accepting.{start-rule, finish-clear, finish-can, result-clear, result-complete, every-short, every-unchanged}
 use Rattle.steps.proofs.Made.{start-word, start-counts, start-values, finish-word, finish-counts, finish-size, finish-written, finish-unwritten}
 use Rattle.taskiter.specs.Demands.{FitTold, TextRead, PlanReady, Steps, Demand1, Demand2, Opened, Demand3, Demands}
 use Rattle.taskiter.proofs.AnyOrder.{in-any-order}
@@ -108,7 +109,8 @@ module _ (plan counts values : List ℕ) (words : (i : ℕ) → getD plan i 0 �
   steps =
       record {
         items = λ R. body-laws .meaning (planBody plan) (plan-fits (take planWords plan) (ready-form plan counts values R));
-        edges = λ R. edge-decided (planBody plan) (plan-fits (take planWords plan) (ready-form plan counts values R)) (formed (take planWords plan) (form-words (take planWords plan) (ready-form plan counts values R)) .regions-most);
+        edges = λ R. edge-decided (planBody plan) (plan-fits (take planWords plan) (ready-form plan counts values R))
+            (formed (take planWords plan) (form-words (take planWords plan) (ready-form plan counts values R)) .regions-most);
         own-rank = own-rank plan counts values;
         room = room plan counts values;
         held-apart = held-apart plan counts values;

@@ -1,4 +1,5 @@
--- Running to the end, from what opening and the turns leave: P, C and W are the lent plan, counts and values, and C1 and W1 what the opening leaves.
+-- Running to the end, from what opening and the turns leave: P, C and W are the lent plan, counts
+-- and values.
 use Prim.Native.Nat.{ℕ, _+_, _≤_, _<_}
 use mathlib.Core.Path.{_≡_, refl, sym, _∙_, ap, subst}
 use mathlib.Core.Bool.{true}
@@ -7,25 +8,20 @@ use mathlib.Core.List.{List, [], _∷_}
 use native.Mathlib.Decide.{ℕ-discrete, decLt}
 use native.Mathlib.Omega.{arith}
 use lib.ListN.{length, getD, take}
-use Rattle.finite.specs.Below.{allBelow}
 use Rattle.finite.proofs.Tests.{not-both}
-use Rattle.body.specs.Body.{Body}
-use Rattle.body.specs.Items.{itemCount}
 use Rattle.body.specs.Loop.{loopFinal}
 use Rattle.plan.specs.Layout.{planWords}
-use Rattle.graph.specs.Answers.{formedPlan, planBody}
+use Rattle.graph.specs.Answers.{planBody}
 use Rattle.steps.specs.State.{countWords, valueWords, firstFinished, stateOf}
-use Rattle.steps.specs.Answers.{Left, countOk, longSlices, openOf, resultOf}
-use Rattle.steps.specs.Calls.{Call, start, finish, result, isStep, Lent, lent, lentBy, call, play, accepted}
+use Rattle.steps.specs.Answers.{Left, openOf, resultOf}
+use Rattle.steps.specs.Calls.{Call, start, finish, result, isStep, Lent, lent, lentBy, call, play}
 use Rattle.steps.specs.Running.{Accepts, Next, Taken}
-use Rattle.steps.specs.Turns.{doneBy, Idle, Going, Over}
-use Rattle.steps.proofs.Accepting.{Clear, long-slices, formed-counts, open-accepted, open-opened, open-unchanged, start-rule, finish-can}
-use Rattle.steps.proofs.Running.{taken-accepted, opened-idle, call-cut, taken-cut, play-cut}
+use Rattle.steps.specs.Turns.{Going, Over}
+use Rattle.steps.proofs.Accepting.{Clear, long-slices, formed-counts, open-accepted, start-rule, finish-can}
+use Rattle.steps.proofs.Running.{taken-accepted, call-cut, taken-cut, play-cut}
 use Rattle.taskiter.specs.Demands.{finishesOf, AtEnd, InAnyOrder, Complete}
-use Rattle.taskiter.specs.Told.{toldOpening}
-use Rattle.taskiter.specs.Items.{Formed}
 use Rattle.taskiter.specs.Run.{Run, Ran}
-use Rattle.taskiter.proofs.Looking.{cut-long, body-cut}
+use Rattle.taskiter.proofs.Exported.{open-cut}
 use Rattle.taskiter.proofs.AnyOrder.{open-order, open-clear}
 
 -- two steps that come next are the same
@@ -77,106 +73,70 @@ complete-over plan s k h (finish a) z x =
     ⊎-elim (λ e. omega (arith, e, r .running)) (λ e. omega (arith, e .1, h a (r .in-range))) (formed-counts plan (s .counts) (s .values) .0 (k .formed-counts) a (r .in-range) .1)
 complete-over plan s k h (result g) z x = not-both z refl
 
-module _ (P C W C1 W1 : List ℕ) (r : ℕ) (o : toldOpening r C1 W1 ≡ openOf P C W) where
-  refusal-is : r ≡ openOf P C W .refusal
-  refusal-is = ap (λ (x : Left). x .refusal) o
+module _ (P C W : List ℕ) (opens : openOf P C W .refusal ≡ 0) where
+  sizes : (planWords ≤ length P) × (countWords ≤ length C) × (valueWords ≤ length W)
+  sizes = long-slices P C W .0 (open-accepted P C W .0 opens .0)
 
-  pub run-refused : (r ≡ 0 → ⊥) → Ran P C W (record { refusal = r; number = 0 }) C1 W1
-  run-refused n =
-      let u = open-unchanged P C W (λ z. n (refusal-is ∙ z)) in
-      record {
-        refusal = refusal-is;
-        refused = λ z. (refl, ap (λ (x : Left). x .counts) o ∙ u .1, ap (λ (x : Left). x .values) o ∙ u .2);
-        ran = λ z. absurd (n z);
-      }
+  module _ (C2 W2 : List ℕ) (steps : ℕ) (G : Going (take planWords P) (lentBy (openOf (take planWords P) C W)) (lent C2 W2) steps × Over (take planWords P) (lent C2 W2)) where
+    is-first : lentBy (openOf (take planWords P) C W) ≡ lentBy (openOf P C W)
+    is-first = ap lentBy (open-cut P C W (sizes .0))
 
-  module _ (z : r ≡ 0) where
-    opens : openOf P C W .refusal ≡ 0
-    opens = sym refusal-is ∙ z
+    calls : List Call
+    calls = G .0 .calls
 
-    parts : (longSlices P C W ≡ true) × (formedPlan P ≡ true)
-    parts = open-accepted P C W .0 opens
+    run-taken : Taken P (lentBy (openOf P C W)) calls
+    unfolding calls
+    run-taken = subst (λ (x : Lent). Taken P x calls) is-first (taken-cut P (sizes .0) (lentBy (openOf (take planWords P) C W)) (G .0 .calls) (G .0 .taken))
 
-    sizes : (planWords ≤ length P) × (countWords ≤ length C) × (valueWords ≤ length W)
-    sizes = long-slices P C W .0 (parts .0)
+    run-reached : lent C2 W2 ≡ play P (lentBy (openOf P C W)) calls
+    unfolding calls
+    run-reached = G .0 .reached ∙ (play-cut P (sizes .0) (lentBy (openOf (take planWords P) C W)) (G .0 .calls) ∙ ap (λ (x : Lent). play P x calls) is-first)
 
-    pub run-long : planWords ≤ length P
-    run-long = sizes .0
+    run-over : Over P (play P (lentBy (openOf P C W)) calls)
+    run-over = subst (Over P) run-reached (λ c s x. G .1 c s (ap (λ (y : Left). y .refusal) (call-cut P (sizes .0) (lent C2 W2) c) ∙ x))
 
-    idle : Idle P (lent C1 W1)
-    idle = subst (Idle P) (ap lentBy (sym (open-opened P C W (parts .0) (parts .1)) ∙ sym o)) (opened-idle P (sizes .0) (parts .1) C W (sizes .1) (sizes .2))
+    order : InAnyOrder (planBody P) P (lentBy (openOf P C W)) calls
+    order = open-order P C W opens calls
 
-    pub run-asks : Formed (take planWords P) × Idle (take planWords P) (lent C1 W1)
-    run-asks = (
-      record { long = cut-long P (sizes .0); formed = parts .1 },
-      record {
-        long-counts = idle .long-counts;
-        long-values = idle .long-values;
-        formed = subst (λ (B : Body). allBelow (itemCount B) (countOk (B .passes) (stateOf C1 W1)) ≡ true) (sym (body-cut P (sizes .0))) (idle .formed);
-        idle = subst (λ (B : Body). (a : ℕ) → a < itemCount B → getD C1 a 0 ≡ doneBy C1 a) (sym (body-cut P (sizes .0))) (idle .idle);
-      },
-    )
+    clear : Clear P (play P (lentBy (openOf P C W)) calls .counts) (play P (lentBy (openOf P C W)) calls .values)
+    clear = open-clear P C W opens calls
 
-    module _ (C2 W2 : List ℕ) (steps : ℕ) (G : Going (take planWords P) (lent C1 W1) (lent C2 W2) steps × Over (take planWords P) (lent C2 W2)) where
-      is-first : lent C1 W1 ≡ lentBy (openOf P C W)
-      is-first = ap lentBy o
+    -- every item has finished all passes, since some step is accepted while one has not
+    at-end : AtEnd (planBody P) P (lentBy (openOf P C W)) calls
+    at-end a l =
+        elim (ℕ-discrete (finishesOf (planBody P) P (lentBy (openOf P C W)) a calls) (planBody P .passes)) [
+          | yes e ↦ e
+          | no n ↦ absurd (go (order .goes-on a l (less n)))
+        ]
+      where
+        less : (finishesOf (planBody P) P (lentBy (openOf P C W)) a calls ≡ planBody P .passes → ⊥) → finishesOf (planBody P) P (lentBy (openOf P C W)) a calls < planBody P .passes
+        less n =
+            omega (
+              arith,
+              n,
+              order .counted a l .1,
+              formed-counts P (play P (lentBy (openOf P C W)) calls .counts) (play P (lentBy (openOf P C W)) calls .values) .0 (clear .formed-counts) a l .0,
+            )
 
-      calls : List Call
-      calls = G .0 .calls
+        go : (c : Call) × (isStep c ≡ true) × (call P (play P (lentBy (openOf P C W)) calls) c .refusal ≡ 0) → ⊥
+        go (c, s, x) = run-over c s x
 
-      run-taken : Taken P (lentBy (openOf P C W)) calls
-      unfolding calls
-      run-taken = subst (λ (x : Lent). Taken P x calls) is-first (taken-cut P (sizes .0) (lent C1 W1) (G .0 .calls) (G .0 .taken))
+    run-done : Run P (lentBy (openOf P C W)) (lent C2 W2) steps
+    unfolding calls
+    run-done =
+        record {
+          calls = calls;
+          taken = run-taken;
+          all-accepted = taken-accepted P (lentBy (openOf P C W)) calls run-taken;
+          reached = run-reached;
+          counted = G .0 .counted;
+          complete = λ a l. ap (λ (x : Lent). getD (x .counts) (firstFinished + a) 0) run-reached ∙ (order .counted a l .1 ∙ at-end a l);
+          total = G .0 .counted ∙ (sym (taken-accepted P (lentBy (openOf P C W)) calls run-taken) ∙ order .ends .0 at-end);
+          only = λ k t c. taken-only P (lentBy (openOf P C W)) k calls t run-taken (complete-over P (play P (lentBy (openOf P C W)) k) (open-clear P C W opens k) c) run-over;
+          results = λ g l.
+              subst (λ (x : Lent). (resultOf P (x .counts) (x .values) g .refusal ≡ 0) × (resultOf P (x .counts) (x .values) g .word ≡ loopFinal (planBody P) g)) (sym run-reached)
+              (let a = order .accepts-results g l .0 at-end in (a, order .final g a));
+        }
 
-      run-reached : lent C2 W2 ≡ play P (lentBy (openOf P C W)) calls
-      unfolding calls
-      run-reached = G .0 .reached ∙ (play-cut P (sizes .0) (lent C1 W1) (G .0 .calls) ∙ ap (λ (x : Lent). play P x calls) is-first)
-
-      run-over : Over P (play P (lentBy (openOf P C W)) calls)
-      run-over = subst (Over P) run-reached (λ c s x. G .1 c s (ap (λ (y : Left). y .refusal) (call-cut P (sizes .0) (lent C2 W2) c) ∙ x))
-
-      order : InAnyOrder (planBody P) P (lentBy (openOf P C W)) calls
-      order = open-order P C W opens calls
-
-      clear : Clear P (play P (lentBy (openOf P C W)) calls .counts) (play P (lentBy (openOf P C W)) calls .values)
-      clear = open-clear P C W opens calls
-
-      -- every item has finished all passes, since some step is accepted while one has not
-      at-end : AtEnd (planBody P) P (lentBy (openOf P C W)) calls
-      at-end a l =
-          elim (ℕ-discrete (finishesOf (planBody P) P (lentBy (openOf P C W)) a calls) (planBody P .passes)) [
-            | yes e ↦ e
-            | no n ↦ absurd (go (order .goes-on a l (less n)))
-          ]
-        where
-          less : (finishesOf (planBody P) P (lentBy (openOf P C W)) a calls ≡ planBody P .passes → ⊥) → finishesOf (planBody P) P (lentBy (openOf P C W)) a calls < planBody P .passes
-          less n =
-              omega (
-                arith,
-                n,
-                order .counted a l .1,
-                formed-counts P (play P (lentBy (openOf P C W)) calls .counts) (play P (lentBy (openOf P C W)) calls .values) .0 (clear .formed-counts) a l .0,
-              )
-
-          go : (c : Call) × (isStep c ≡ true) × (call P (play P (lentBy (openOf P C W)) calls) c .refusal ≡ 0) → ⊥
-          go (c, s, x) = run-over c s x
-
-      run-done : Run P (lentBy (openOf P C W)) (lent C2 W2) steps
-      unfolding calls
-      run-done =
-          record {
-            calls = calls;
-            taken = run-taken;
-            all-accepted = taken-accepted P (lentBy (openOf P C W)) calls run-taken;
-            reached = run-reached;
-            counted = G .0 .counted;
-            complete = λ a l. ap (λ (x : Lent). getD (x .counts) (firstFinished + a) 0) run-reached ∙ (order .counted a l .1 ∙ at-end a l);
-            total = G .0 .counted ∙ (sym (taken-accepted P (lentBy (openOf P C W)) calls run-taken) ∙ order .ends .0 at-end);
-            only = λ k t c. taken-only P (lentBy (openOf P C W)) k calls t run-taken (complete-over P (play P (lentBy (openOf P C W)) k) (open-clear P C W opens k) c) run-over;
-            results = λ g l.
-                subst (λ (x : Lent). (resultOf P (x .counts) (x .values) g .refusal ≡ 0) × (resultOf P (x .counts) (x .values) g .word ≡ loopFinal (planBody P) g)) (sym run-reached)
-                (let a = order .accepts-results g l .0 at-end in (a, order .final g a));
-          }
-
-      pub run-ran : Ran P C W (record { refusal = 0; number = steps }) C2 W2
-      run-ran = record { refusal = sym opens; refused = λ n. absurd (n refl); ran = λ y. run-done }
+    pub run-ran : Ran P C W (record { refusal = 0; number = steps }) C2 W2
+    run-ran = record { refusal = sym opens; refused = λ n. absurd (n refl); ran = λ y. run-done }

@@ -1,4 +1,5 @@
--- Demand 2: the numbers of refused calls, what an accepted opening or result leaves, and the room that the state has.
+-- Demand 2: the numbers of refused calls, what an accepted opening or result leaves, and the room
+-- that the state has.
 use Prim.Native.Nat.{ℕ, _+_, _*_, _≤_, _<_}
 use mathlib.Core.Path.{_≡_, refl, _∙_, ap}
 use mathlib.Core.Bool.{true, false, _||_}
@@ -24,7 +25,8 @@ use Rattle.steps.specs.Calls.{Call, start, finish, result, lent}
 use Rattle.steps.proofs.Accepting.{Clear}
 use Rattle.steps.proofs.Refusals.{within, none-short, not-short, open-11, open-12, call-11, call-12, call-13, start-14, start-15, start-16, finish-17, result-18}
 use Rattle.steps.proofs.Placing.{count-from, value-from, own-copy, items-few, beyond-unwritten}
-use Rattle.steps.proofs.Made.{open-count-size, open-value-size, open-started, open-finished, open-copy, open-slot, open-held, open-count-stays, open-value-stays, result-written, result-unwritten, result-no-pass, result-counts, result-values}
+use Rattle.steps.proofs.Made.{open-count-size, open-value-size, open-started, open-finished, open-copy, open-slot, open-held}
+use Rattle.steps.proofs.Made.{open-count-stays, open-value-stays, result-written, result-unwritten, result-no-pass, result-counts, result-values}
 use Rattle.taskiter.specs.Demands.{PlanReady, Ready, UsedCount, of-start, of-finish, UsedValue, of-copy, of-slot, of-held, OpenMade, ResultMade, Within, Numbers}
 use Rattle.taskiter.proofs.Readiness.{ready-form, ready-clear, form-ready, clear-ready}
 

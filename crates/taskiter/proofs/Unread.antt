@@ -1,4 +1,5 @@
--- What a call answers depends on the words of the plan, and on the state that the plan uses: `Demand2 .unread` of specs/Demands.antt.
+-- What a call answers depends on the words of the plan, and on the state that the plan uses:
+-- `Demand2 .unread` of specs/Demands.antt.
 use Prim.Native.Nat.{ℕ, _+_, _<_}
 use mathlib.Core.Path.{_≡_, refl, sym, _∙_, ap, ap₂}
 use mathlib.Core.Bool.{Bool, true, cond, _&&_}

@@ -1,5 +1,3 @@
 pub mod Demands
-pub mod Told
 pub mod Run
-pub mod Items
-pub mod Chains
+pub mod Shown

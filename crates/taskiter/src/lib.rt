@@ -1,95 +1,41 @@
-// The runtime, as a C host calls it: reading, opening, start, finish and result on lent slices, and the graph besides (include/taskiter.h). A
-// call looks at the plan and the state that it is lent, and keeps nothing between calls.
+// The runtime, as a C host calls it: reading, opening, start, finish and result on lent slices, and
+// the graph besides (include/taskiter.h). A call looks at the plan and the state that it is lent,
+// and keeps nothing between calls.
 ghost use mathlib.Core.Path.{_≡_};
-ghost use mathlib.Core.Bool.{true, _&&_, _||_};
-ghost use mathlib.Core.List.{[]};
-ghost use Prim.Native.Nat.{_≤_, _<_};
-ghost use lib.Dec.{ltb};
-ghost use lib.ListN.{length};
-ghost use Rattle.finite.specs.Below.{allBelow};
-ghost use Rattle.body.specs.Items.{itemCount};
-ghost use Rattle.plan.specs.Layout.{planWords, bodyOf, passesOf};
-ghost use Rattle.plan.specs.Form.{inForm};
 ghost use Rattle.reader.specs.Answer.{Reads};
-ghost use Rattle.graph.specs.Answers.{refusalOf, ItemsAnswer, EdgesAnswer};
-ghost use Rattle.steps.specs.State.{countWords, valueWords, stateOf};
-ghost use Rattle.steps.specs.Answers.{countOk, openOf, startOf, finishOf, resultOf};
-ghost use Rattle.taskiter.specs.Told.{told, toldOpening};
-ghost use Rattle.taskiter.specs.Run.{Ran};
-
-mod chains;
-mod counts;
-mod finishes;
-mod numbers;
-mod openings;
-mod results;
-mod runs;
-mod starts;
-
-use crate::numbers::as_index;
-use crate::numbers::pass_count;
-use crate::numbers::wide_16;
-use graph::MAX_ITEMS;
+ghost use Rattle.graph.specs.Answers.{ItemsAnswer, EdgesAnswer};
+ghost use Rattle.steps.specs.Answers.{openOf, startOf, finishOf, resultOf};
+ghost use Rattle.calls.specs.Told.{told, toldOpening};
+ghost use Rattle.taskiter.specs.Shown.{Shown};
+use calls::Answer;
+use calls::doors::enter_plan;
+use calls::doors::enter_state;
+use calls::doors::is_short;
+use calls::drawing::list_edges;
+use calls::finishes::finish_clear;
+use calls::no_word;
+use calls::openings::open_clear;
+use calls::results::result_clear;
+use calls::starts::start_clear;
 use graph::Number;
-use plan::limits::PLAN_WORDS;
+use plan::layout::PLAN_WORDS;
+use plan::numbers::as_word;
+use plan::state::COUNTS;
+use plan::state::Count;
+use plan::state::EDGE_WORDS;
+use plan::state::MAX_ITEMS;
+use plan::state::RESULTS;
+use plan::state::VALUES;
+use runs::run_clear;
+use runs::shown::put_results;
 
-// The sizes of the lent state: two counts an item; the values are the copies, a slot for each item number, and a held word for each item.
-pub const COUNTS: usize = 1280;
-
-pub const VALUES: usize = 3328;
-
-// Where the slots start in the values, behind the copies, and where the held words start. Finished passes stand MAX_ITEMS behind the started
-// ones.
-pub const FIRST_SLOT: usize = 2048;
-
-pub const FIRST_HELD: usize = 2688;
-
-// The answer of a step or result: refusal 0 and the word; or a refusal, and then the word is 0.
-#[repr(C)]
-pub struct Answer {
-    pub refusal: u64,
-    pub word: u64,
-}
-
-fn no_word(refusal: u64) -> Answer
-    ensures { λ r. ⌜ r ≡ record { refusal = refusal; word = 0 } ⌝ }
+fn no_number(refusal: u64) -> Number
+    ensures { λ r. ⌜ r ≡ record { refusal = refusal; number = 0 } ⌝ }
 {
-    Answer {
+    Number {
         refusal: refusal,
-        word: 0,
+        number: 0,
     }
-}
-
-// Whether a slice of one of these lengths is too short.
-fn is_short(plan: usize, counts: usize, values: usize) -> bool
-    ensures { λ r. ⌜ r ≡ (ltb plan planWords || (ltb counts countWords || ltb values valueWords)) ⌝ }
-{
-    (plan < PLAN_WORDS) | ((counts < COUNTS) | (values < VALUES))
-}
-
-// What refuses every step and result once the slices are long enough, 0 if nothing does: 12 where the plan is not formed, or the counts of one
-// of its n items are not; 13 where the number asked for does not lie within its limit.
-fn call_refusal(plan: &[u64], counts: &[u32], formed: bool, n: usize, within: bool) -> u64
-    requires { ⌜
-        (length (now plan) ≡ planWords) × (countWords ≤ length (now counts)) × (formed ≡ inForm (now plan))
-        × (formed ≡ true → n ≡ itemCount (bodyOf (now plan)))
-        ⌝ }
-    ensures { λ r. ⌜
-        r ≡ refusalOf true
-        (inForm (now (plan .entry)) && allBelow (itemCount (bodyOf (now (plan .entry)))) (countOk (passesOf (now (plan .entry))) (stateOf (now (counts .entry)) [])))
-        within
-        ⌝ }
-{
-    if !formed {
-        return 12;
-    }
-    if !counts::are_formed(counts, pass_count(plan), n) {
-        return 12;
-    }
-    if !within {
-        return 13;
-    }
-    0
 }
 
 // Reads a text into a lent plan.
@@ -100,12 +46,20 @@ pub extern "C" fn taskiter_read(text: &[u8], plan: &mut [u64]) -> reader::Answer
     reader::read(text, plan)
 }
 
-// The items of a plan: a number for each in the lent table, rank × 512 + kind × 128 + task or region, and how many they are.
+// The items of a plan: a number for each in the lent table, rank × 512 + kind × 128 + task or
+// region, and how many they are.
 #[no_mangle]
 pub extern "C" fn taskiter_items(plan: &[u64], table: &mut [u16]) -> Number
     ensures { λ r. ⌜ ItemsAnswer (now (plan .entry)) (now (table .entry)) r (now (table .exit)) ⌝ }
 {
-    graph::items(plan, table)
+    if table.len() < MAX_ITEMS {
+        return no_number(11);
+    }
+    let entry = enter_plan(plan, true, &mut table[..MAX_ITEMS]);
+    Number {
+        refusal: entry.refusal,
+        number: as_word(entry.items),
+    }
 }
 
 // The edges of a plan: from, to and distance of each in the lent list, and how many they are.
@@ -113,12 +67,20 @@ pub extern "C" fn taskiter_items(plan: &[u64], table: &mut [u16]) -> Number
 pub extern "C" fn taskiter_edges(plan: &[u64], list: &mut [u32]) -> Number
     ensures { λ r. ⌜ EdgesAnswer (now (plan .entry)) (now (list .entry)) r (now (list .exit)) ⌝ }
 {
-    graph::edges(plan, list)
+    let mut table = [0u16; MAX_ITEMS];
+    let entry = enter_plan(plan, EDGE_WORDS <= list.len(), &mut table);
+    if entry.refusal != 0 {
+        return no_number(entry.refusal);
+    }
+    Number {
+        refusal: 0,
+        number: as_word(list_edges(&plan[..PLAN_WORDS], &table, entry.items, list)),
+    }
 }
 
 // Opens a lent state for a plan; answers the refusal, 0 if there is none.
 #[no_mangle]
-pub extern "C" fn taskiter_open(plan: &[u64], counts: &mut [u32], values: &mut [u64]) -> u64
+pub extern "C" fn taskiter_open(plan: &[u64], counts: &mut [Count], values: &mut [u64]) -> u64
     ensures { λ r. ⌜
         toldOpening r (now (counts .exit)) (now (values .exit)) ≡ openOf (now (plan .entry)) (now (counts .entry)) (now (values .entry))
         ⌝ }
@@ -126,15 +88,13 @@ pub extern "C" fn taskiter_open(plan: &[u64], counts: &mut [u32], values: &mut [
     if is_short(plan.len(), counts.len(), values.len()) {
         return 11;
     }
-    let words = &plan[..PLAN_WORDS];
-    let mut items = [0u16; MAX_ITEMS];
-    let made = graph::items(words, &mut items);
-    if made.refusal != 0 {
-        return 12;
+    let mut table = [0u16; MAX_ITEMS];
+    let long = (COUNTS <= counts.len()) & (VALUES <= values.len());
+    let entry = enter_plan(plan, long, &mut table);
+    if entry.refusal != 0 {
+        return entry.refusal;
     }
-    let n = as_index(made.number);
-    openings::clear_counts(counts, n);
-    openings::open_values(words, &items, n, values);
+    open_clear(&plan[..PLAN_WORDS], &table, entry.items, counts, values);
     0
 }
 
@@ -142,7 +102,7 @@ pub extern "C" fn taskiter_open(plan: &[u64], counts: &mut [u32], values: &mut [
 #[no_mangle]
 pub extern "C" fn taskiter_start(
     plan: &[u64],
-    counts: &mut [u32],
+    counts: &mut [Count],
     values: &mut [u64],
     item: u64,
 ) -> Answer
@@ -153,28 +113,27 @@ pub extern "C" fn taskiter_start(
     if is_short(plan.len(), counts.len(), values.len()) {
         return no_word(11);
     }
-    let words = &plan[..PLAN_WORDS];
-    let pass = starts::next_pass(counts, item);
-    let waits = graph::waits_met(words, &counts[MAX_ITEMS..], item, pass);
-    let n = as_index(waits.items);
-    let refusal = call_refusal(words, counts, waits.refusal != 12, n, item < waits.items);
-    if refusal != 0 {
-        return no_word(refusal);
+    let mut table = [0u16; MAX_ITEMS];
+    let entry = enter_state(plan, counts, VALUES <= values.len(), &mut table);
+    if entry.refusal != 0 {
+        return no_word(entry.refusal);
     }
-    let a = as_index(item);
-    let done = counts[MAX_ITEMS + a];
-    let own = starts::start_refusal(pass, done, pass_count(words), waits.holds);
-    if own != 0 {
-        return no_word(own);
-    }
-    starts::start_item(words, waits.code, a, counts, values)
+    start_clear(
+        &plan[..PLAN_WORDS],
+        &table,
+        entry.items,
+        counts,
+        values,
+        item,
+    )
 }
 
-// Finishes the pass of an item that runs: the held word goes to the places that the item writes, and is answered.
+// Finishes the pass of an item that runs: the held word goes to the places that the item writes,
+// and is answered.
 #[no_mangle]
 pub extern "C" fn taskiter_finish(
     plan: &[u64],
-    counts: &mut [u32],
+    counts: &mut [Count],
     values: &mut [u64],
     item: u64,
 ) -> Answer
@@ -185,26 +144,26 @@ pub extern "C" fn taskiter_finish(
     if is_short(plan.len(), counts.len(), values.len()) {
         return no_word(11);
     }
-    let words = &plan[..PLAN_WORDS];
-    let mut items = [0u16; MAX_ITEMS];
-    let made = graph::items(words, &mut items);
-    let n = as_index(made.number);
-    let refusal = call_refusal(words, counts, made.refusal == 0, n, item < made.number);
-    if refusal != 0 {
-        return no_word(refusal);
+    let mut table = [0u16; MAX_ITEMS];
+    let entry = enter_state(plan, counts, VALUES <= values.len(), &mut table);
+    if entry.refusal != 0 {
+        return no_word(entry.refusal);
     }
-    let a = as_index(item);
-    if counts[a] == counts[MAX_ITEMS + a] {
-        return no_word(17);
-    }
-    finishes::finish_item(words, wide_16(items[a]), a, counts, values)
+    finish_clear(
+        &plan[..PLAN_WORDS],
+        &table,
+        entry.items,
+        counts,
+        values,
+        item,
+    )
 }
 
 // The result of a region once the loop is complete.
 #[no_mangle]
 pub extern "C" fn taskiter_result(
     plan: &[u64],
-    counts: &[u32],
+    counts: &[Count],
     values: &[u64],
     region: u64,
 ) -> Answer
@@ -215,39 +174,72 @@ pub extern "C" fn taskiter_result(
     if is_short(plan.len(), counts.len(), values.len()) {
         return no_word(11);
     }
-    let words = &plan[..PLAN_WORDS];
-    let made = graph::size(words);
-    let n = as_index(made.number);
-    let refusal = call_refusal(words, counts, made.refusal == 0, n, region < words[2]);
-    if refusal != 0 {
-        return no_word(refusal);
+    let mut table = [0u16; MAX_ITEMS];
+    let entry = enter_state(plan, counts, VALUES <= values.len(), &mut table);
+    if entry.refusal != 0 {
+        return no_word(entry.refusal);
     }
-    if !counts::are_complete(counts, pass_count(words), n) {
-        return no_word(18);
-    }
-    Answer {
-        refusal: 0,
-        word: results::result_word(words, values, as_index(region)),
+    result_clear(
+        &plan[..PLAN_WORDS],
+        &table,
+        entry.items,
+        counts,
+        values,
+        region,
+    )
+}
+
+// What a run answers: refusal 0, and how many items, edges and steps there were; or a refusal, and
+// then zeros.
+pub struct Outcome {
+    pub refusal: u64,
+    pub items: u64,
+    pub edges: u64,
+    pub steps: u64,
+}
+
+fn no_run(refusal: u64) -> Outcome
+    ensures { λ r. ⌜ r ≡ record { refusal = refusal; items = 0; edges = 0; steps = 0 } ⌝ }
+{
+    Outcome {
+        refusal: refusal,
+        items: 0,
+        edges: 0,
+        steps: 0,
     }
 }
 
-// Opens a lent state for a plan and runs it to its end, in the order of the run program; answers how many steps that took. The plan is looked at
-// once, and not at every step.
-pub fn run(plan: &[u64], counts: &mut [u32], values: &mut [u64]) -> Number
+// Opens a lent state for a plan and runs it to its end, in the order of the run program. The plan
+// is looked at once: its items, its edges and the results are handed out besides.
+pub fn run(
+    plan: &[u64],
+    table: &mut [u16],
+    list: &mut [u32],
+    counts: &mut [Count],
+    values: &mut [u64],
+    results: &mut [u64],
+) -> Outcome
     ensures { λ r. ⌜
-        Ran (now (plan .entry)) (now (counts .entry)) (now (values .entry)) r (now (counts .exit)) (now (values .exit))
+        Shown (now (plan .entry)) (now (table .entry)) (now (list .entry)) (now (counts .entry)) (now (values .entry)) (now (results .entry)) r
+        (now (table .exit)) (now (list .exit)) (now (counts .exit)) (now (values .exit)) (now (results .exit))
         ⌝ }
 {
-    let refusal = taskiter_open(plan, counts, values);
-    if refusal != 0 {
-        return Number {
-            refusal: refusal,
-            number: 0,
-        };
+    if table.len() < MAX_ITEMS {
+        return no_run(11);
+    }
+    let state = (COUNTS <= counts.len()) & (VALUES <= values.len());
+    let long = state & ((EDGE_WORDS <= list.len()) & (RESULTS <= results.len()));
+    let entry = enter_plan(plan, long, &mut table[..MAX_ITEMS]);
+    if entry.refusal != 0 {
+        return no_run(entry.refusal);
     }
     let words = &plan[..PLAN_WORDS];
-    Number {
+    let ended = run_clear(words, table, entry.items, list, counts, values);
+    put_results(words, values, results);
+    Outcome {
         refusal: 0,
-        number: runs::run_opened(words, counts, values),
+        items: as_word(entry.items),
+        edges: as_word(ended.edges),
+        steps: ended.steps,
     }
 }

@@ -1,5 +1,5 @@
--- Worked examples of the definitions, by computation: what a reader that is slightly wrong would get wrong.
--- In bytes: a tab is 9, a line feed 10, a carriage return 13, a digit d is 48 + d.
+-- Worked examples of the definitions, by computation: what a reader that is slightly wrong would
+-- get wrong. In bytes: a tab is 9, a line feed 10, a carriage return 13, a digit d is 48 + d.
 use mathlib.Core.Path.{_≡_, refl}
 use mathlib.Core.List.{[], _∷_, _++_}
 use Rattle.text.specs.Numbers.{wellFormed, numberOf}

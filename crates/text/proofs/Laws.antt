@@ -1,4 +1,5 @@
--- Laws of the definitions of `specs/Text.antt`, as the loops over a slice ask them: at an index i of the list s.
+-- Laws of the definitions of `specs/Text.antt`, as the loops over a slice ask them: at an index i
+-- of the list s.
 use Prim.Native.Nat.{ℕ, suc, _+_, _≤_, _<_}
 use mathlib.Core.Path.{_≡_}
 use mathlib.Core.List.{List}

@@ -1,4 +1,5 @@
--- Laws of `specs/Numbers.antt`, as the functions over a field ask them: those of a loop at an index i of the list f.
+-- Laws of `specs/Numbers.antt`, as the functions over a field ask them: those of a loop at an index
+-- i of the list f.
 use Prim.Native.Nat.{ℕ, zero, suc, _+_, _*_, _-_, _^_, _≤_, _<_}
 use mathlib.Core.Path.{_≡_, refl, _∙_}
 use mathlib.Core.List.{List, [], _∷_}
@@ -84,7 +85,8 @@ decimal-last k f e =
     let h : k < length f = omega arith in
     rw (decimal-parts k 0 f) (decimal-step f k (decimalAfter 0 (take k f)) h ∙ decimal-end f (k + 1) _ (omega arith))
 
--- v of i digits with the digit d behind it: a number of one digit more, and up to 19 digits a word holds it
+-- v of i digits with the digit d behind it: a number of one digit more, and up to 19 digits a word
+-- holds it
 pub record TenTimes (i v d : ℕ) : Type 0 where
   pub more : v * 10 + d < 10 ^ (i + 1)
   pub fits : v * 10 + d < 2 ^ 64

@@ -40,7 +40,9 @@ module _ (b : ℕ) where
       more [] h = absurd (not-suc-le-zero h)
       more (c ∷ l) h = go (eqb c b) refl h (more l)
         where
-          go : (t : Bool) → eqb c b ≡ t → before (is b) (c ∷ l) < length (c ∷ l) → (before (is b) l < length l → split b l ≡ take (before (is b) l) l ∷ split b (drop (suc (before (is b) l)) l)) → split b (c ∷ l) ≡ take (before (is b) (c ∷ l)) (c ∷ l) ∷ split b (drop (suc (before (is b) (c ∷ l))) (c ∷ l))
+          go : (t : Bool) → eqb c b ≡ t → before (is b) (c ∷ l) < length (c ∷ l) →
+              (before (is b) l < length l → split b l ≡ take (before (is b) l) l ∷ split b (drop (suc (before (is b) l)) l)) →
+              split b (c ∷ l) ≡ take (before (is b) (c ∷ l)) (c ∷ l) ∷ split b (drop (suc (before (is b) (c ∷ l))) (c ∷ l))
           go true e k ih = rw e
           go false e k ih = rw (e, ih (le-of-suc-le-suc (rw e at k)))
 

@@ -1,4 +1,5 @@
--- A number of the text (paper 01, "The plan text"): decimal, 1 to 20 digits, with no leading zero except 0 itself.
+-- A number of the text (paper 01, "The plan text"): decimal, 1 to 20 digits, with no leading zero
+-- except 0 itself.
 use Prim.Native.Nat.{ℕ, _+_, _*_, _-_, _^_}
 use mathlib.Core.List.{List, [], _∷_}
 use mathlib.Core.Bool.{Bool, true, cond, not, _&&_}

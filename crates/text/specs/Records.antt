@@ -1,4 +1,5 @@
--- A line as fields, and the record that the fields say (paper 01, "The plan text"). The byte 9 is a tab, 10 a line feed.
+-- A line as fields, and the record that the fields say (paper 01, "The plan text"). The byte 9 is a
+-- tab, 10 a line feed.
 use Prim.Native.Nat.{ℕ, _+_}
 use mathlib.Core.List.{List, [], _∷_}
 use mathlib.Core.Bool.{Bool, true, false, cond, _&&_}

@@ -1,4 +1,5 @@
--- Where a byte stands among others (paper 01, "The plan text": lines ended by a line feed, fields parted by one tab).
+-- Where a byte stands among others (paper 01, "The plan text": lines ended by a line feed, fields
+-- parted by one tab).
 use Prim.Native.Nat.{ℕ, suc}
 use mathlib.Core.List.{List, [], _∷_}
 use mathlib.Core.Bool.{Bool, cond}

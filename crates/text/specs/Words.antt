@@ -6,7 +6,8 @@ use lib.Dec.{eqb}
 use Rattle.text.specs.declared.Keyword.{Keyword}
 use Rattle.text.specs.declared.Keyword.the-variants.{Loop, Start, Begin, In, Out, Inout, End, Unknown}
 
--- the words as bytes, in ASCII: a is 97, b 98, d 100, e 101, g 103, i 105, l 108, n 110, o 111, p 112, r 114, s 115, t 116, u 117
+-- the words as bytes, in ASCII: a is 97, b 98, d 100, e 101, g 103, i 105, l 108, n 110, o 111, p
+-- 112, r 114, s 115, t 116, u 117
 
 -- `loop`
 abbrev pub wordLoop : List ℕ

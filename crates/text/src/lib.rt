@@ -1,5 +1,6 @@
-// The plan text's lines: what the line at an offset says, and where the next one starts. A line says a record, whose word and numbers
-// are its fields. The order of the records and the limits of their numbers are not looked at here.
+// The plan text's lines: what the line at an offset says, and where the next one starts. A line
+// says a record, whose word and numbers are its fields. The order of the records and the limits of
+// their numbers are not looked at here.
 ghost use mathlib.Core.Path.{_≡_};
 ghost use mathlib.Core.List.{[]};
 ghost use mathlib.Core.Bool.{true};
@@ -183,7 +184,8 @@ pub fn keyword_of(f: &[u8]) -> Keyword
     Keyword::Unknown
 }
 
-// The numbers of two fields and of three, each in form; or not so many fields, or one of them not in form.
+// The numbers of two fields and of three, each in form; or not so many fields, or one of them not
+// in form.
 pub enum Two {
     Pair(Number, Number),
     NoPair,
@@ -288,7 +290,8 @@ pub enum Record {
     Unreadable,
 }
 
-// What stands at an offset: a line, with the offset behind its line feed, or bytes that no line feed ends.
+// What stands at an offset: a line, with the offset behind its line feed, or bytes that no line
+// feed ends.
 pub enum RecordAt {
     Line { record: Record, next: usize },
     Unended,
@@ -391,7 +394,8 @@ pub fn record_of(line: &[u8]) -> Record
     with_fields(word, behind(line, n + 1))
 }
 
-// What the line that starts at `at` says, and where the next one starts. Unended where no line feed follows, and beyond the end.
+// What the line that starts at `at` says, and where the next one starts. Unended where no line feed
+// follows, and beyond the end.
 fn line_at(s: &[u8], at: usize) -> RecordAt
     ensures { λ r. ⌜ r ≡ recordAt (now (s .entry)) at ⌝ }
 {
@@ -406,8 +410,8 @@ fn line_at(s: &[u8], at: usize) -> RecordAt
     }
 }
 
-// The line reader: it keeps the lent text and the offset of the next line. Its methods put it together and take it apart; `line_at` does the
-// work.
+// The line reader: it keeps the lent text and the offset of the next line. Its methods put it
+// together and take it apart; `line_at` does the work.
 struct LineReader<'a> {
     text: &'a [u8],
     at: usize,
@@ -439,7 +443,8 @@ impl<'a> LineReader<'a> {
     }
 }
 
-// What a reader of the text says at the line that starts at `at`: for callers that keep text and offset themselves.
+// What a reader of the text says at the line that starts at `at`: for callers that keep text and
+// offset themselves.
 pub fn record_at(s: &[u8], at: usize) -> RecordAt
     ensures { λ r. ⌜ r ≡ recordAt (now (s .entry)) at ⌝ }
 {

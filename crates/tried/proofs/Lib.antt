@@ -1,3 +1,4 @@
+pub mod Cases
 pub mod Read
 pub mod Drawn
 pub mod Table

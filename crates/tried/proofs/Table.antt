@@ -1,4 +1,5 @@
--- The table of specs/Table.antt, proved: texts, edges and kernels by computing, calls by the demands.
+-- The table of specs/Table.antt, proved: texts, edges and kernels by computing, calls by the
+-- demands.
 use Prim.Native.Nat.{ℕ, suc, _+_, _*_, _≤_, _<_}
 use mathlib.Core.Path.{_≡_, refl, sym, _∙_, ap, subst}
 use mathlib.Core.Bool.{Bool, cond}
@@ -20,8 +21,8 @@ use Rattle.plan.specs.Layout.{planWords, bodyOf}
 use Rattle.reading.specs.Reading.{readOf, accepted as readTo}
 use Rattle.kernels.proofs.Cases.{mean-widest, mean-rounded, sum-wraps, difference-wraps}
 use Rattle.graph.specs.Answers.{planBody}
-use Rattle.graph.proofs.Cases.{two-ranks-edges, two-readers-edges}
-use Rattle.steps.specs.State.{stateOf}
+use Rattle.tried.proofs.Cases.{two-ranks-edges, two-readers-edges}
+use Rattle.steps.specs.State.{stateOf, firstFinished}
 use Rattle.steps.specs.Answers.{openOf}
 use Rattle.steps.specs.Calls.{Call, start, finish, result, isStep, Lent, lentBy, call, play, accepted}
 use Rattle.taskiter.specs.Demands.{of-start, of-finish, Ready, Opened, OpenMade, Steps, AtEnd, InAnyOrder, Demands}
@@ -66,8 +67,8 @@ module _ (D : Demands) where
     none-started : (a : ℕ) → a < 4 → getD (s .counts) a 0 ≡ 0
     none-started a l = ap (λ (t : Lent). getD (t .counts) a 0) (F .opened) ∙ made .count-set a (of-start a (omega (arith, items-four)) refl)
 
-    none-finished : (a : ℕ) → a < 4 → getD (s .counts) (640 + a) 0 ≡ 0
-    none-finished a l = ap (λ (t : Lent). getD (t .counts) (640 + a) 0) (F .opened) ∙ made .count-set (640 + a) (of-finish a (omega (arith, items-four)) refl)
+    none-finished : (a : ℕ) → a < 4 → getD (s .counts) (firstFinished + a) 0 ≡ 0
+    none-finished a l = ap (λ (t : Lent). getD (t .counts) (firstFinished + a) 0) (F .opened) ∙ made .count-set (firstFinished + a) (of-finish a (omega (arith, items-four)) refl)
 
     -- after the result of a region is accepted
     at-end : (l : List Call) → after plan s l (result 0) .refusal ≡ 0 → AtEnd (bodyOf (exampleWords p)) plan s l
@@ -110,7 +111,7 @@ module _ (D : Demands) where
     started : (a : ℕ) → a < 4 → getD (s .counts) a 0 ≡ 0
     started = none-started 2 example-read plan s F
 
-    finished : (a : ℕ) → a < 4 → getD (s .counts) (640 + a) 0 ≡ 0
+    finished : (a : ℕ) → a < 4 → getD (s .counts) (firstFinished + a) 0 ≡ 0
     finished = none-finished 2 example-read plan s F
 
     -- item 3 waits for item 2
@@ -152,11 +153,12 @@ module _ (D : Demands) where
     unfolding itemAt
     word-0 = ap (λ (l : List Item). loopWord (bodyOf (exampleWords 2)) 0 (writer (getD l 0 (task 0)))) (example-items 2) ∙ first-word
 
-    one-started : (C : List ℕ) → C ≡ set (s .counts) 0 (suc (getD (s .counts) 0 0)) → getD C 0 0 ≡ suc (getD C 640 0)
+    one-started : (C : List ℕ) → C ≡ set (s .counts) 0 (suc (getD (s .counts) 0 0)) → getD C 0 0 ≡ suc (getD C firstFinished 0)
     one-started C e =
         let n : 0 < length (s .counts) = omega (arith, R .plan-ready .long-counts) in
         let x : getD C 0 0 ≡ suc (getD (s .counts) 0 0) = ap (λ (l : List ℕ). getD l 0 0) e ∙ getD-set-same (s .counts) 0 (suc (getD (s .counts) 0 0)) 0 n in
-        let y : getD C 640 0 ≡ getD (s .counts) 640 0 = ap (λ (l : List ℕ). getD l 640 0) e ∙ getD-set-other (s .counts) 0 640 (suc (getD (s .counts) 0 0)) 0 (λ q. let z : _≡_ {A = ℕ} 640 0 = q in omega (arith, z)) in
+        let y : getD C firstFinished 0 ≡ getD (s .counts) firstFinished 0 = ap (λ (l : List ℕ). getD l firstFinished 0) e
+        ∙ getD-set-other (s .counts) 0 firstFinished (suc (getD (s .counts) 0 0)) 0 (λ q. let z : _≡_ {A = ℕ} firstFinished 0 = q in omega (arith, z)) in
         omega (arith, x, y, started 0 (omega arith), finished 0 (omega arith))
 
     case-i : Accepts (call plan s (start 0)) 6 × (after plan s (start 0 ∷ []) (start 0) .refusal ≡ 15)
@@ -175,8 +177,8 @@ module _ (D : Demands) where
     ended l a below =
         let c = order 0 no-pass-read plan s F l .counted a below .1 in
         let k : a < itemCount (planBody plan) = subst (λ (B : Body). a < itemCount B) (sym (body-is 0 no-pass-read plan s F)) below in
-        let r : getD (play plan s l .counts) (640 + a) 0 ≤ planBody plan .passes = ready 0 no-pass-read plan s F l .counts-formed a k .finished in
-        sym c ∙ (let z : getD (play plan s l .counts) (640 + a) 0 ≡ 0 = omega (arith, r, passes-are 0 no-pass-read plan s F) in z)
+        let r : getD (play plan s l .counts) (firstFinished + a) 0 ≤ planBody plan .passes = ready 0 no-pass-read plan s F l .counts-formed a k .finished in
+        sym c ∙ (let z : getD (play plan s l .counts) (firstFinished + a) 0 ≡ 0 = omega (arith, r, passes-are 0 no-pass-read plan s F) in z)
 
     case-c : (l : List Call) →
         Accepts (after plan s l (result 0)) 5 × Accepts (after plan s l (result 1)) 0 × (accepted plan isStep s l ≡ 0)
@@ -184,7 +186,8 @@ module _ (D : Demands) where
     case-c l =
         let four : 0 < itemCount (planBody plan) = omega (arith, items-four 0 no-pass-read plan s F) in
         let e : 0 < itemCount (bodyOf (exampleWords 0)) = subst (λ (B : Body). 0 < itemCount B) (body-is 0 no-pass-read plan s F) four in
-        let done : getD (play plan s l .counts) (640 + 0) 0 ≡ planBody plan .passes = order 0 no-pass-read plan s F l .counted 0 e .1 ∙ (ended l 0 e ∙ sym (passes-are 0 no-pass-read plan s F)) in
+        let done : getD (play plan s l .counts) (firstFinished + 0) 0 ≡ planBody plan .passes =
+        order 0 no-pass-read plan s F l .counted 0 e .1 ∙ (ended l 0 e ∙ sym (passes-are 0 no-pass-read plan s F)) in
         let r = finals 0 no-pass-read plan s F l (ended l) 5 0 (final-none .0) (final-none .1) in
         (r .0, r .1, all-steps 0 no-pass-read plan s F l (ended l), steps 0 no-pass-read plan s F (play plan s l) .numbers .start-14 0 .1 (ready 0 no-pass-read plan s F l, four, done))
 

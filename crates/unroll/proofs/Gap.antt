@@ -20,7 +20,9 @@ use Rattle.unroll.proofs.Runs.{can-accepts}
 
 -- item 2 waits for item 1 alone, which has no pass
 can-start : CanStart gap (opening gap) 2
-unfolding decide opening mem true-or-false decLt decLe ℕ-discrete Dec·and dec-map dec-imp dec-sum dec-then dec-below dec-below-suc dec-some dec-some-cons scan scan-suc last-same last-next last-far last-writer dec-before dec-writes dec-accesses dec-conflict dec-last dec-unwritten dec-through dec-dependence dec-edge dec-met dec-ready dec-start
+unfolding decide opening mem true-or-false decLt decLe ℕ-discrete Dec·and dec-map dec-imp dec-sum dec-then dec-below dec-below-suc dec-some
+    dec-some-cons scan scan-suc last-same last-next last-far last-writer dec-before dec-writes dec-accesses dec-conflict dec-last dec-unwritten
+    dec-through dec-dependence dec-edge dec-met dec-ready dec-start
 can-start = decide-iff (dec-start gap (opening gap) 2) .0 refl
 
 in-order : word gap 0 2 ≡ 2

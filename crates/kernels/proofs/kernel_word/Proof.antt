@@ -6,18 +6,6 @@ use Rattle.kernels.proofs.Laws.{kernelWord-other}
 use Rattle.kernels.proofs.kernel_word.Statement.{statement}
 use Rattle.kernels.proofs.kernel_word.Tie as tie
 
-sum-word-requires : tie.Need-sum-word-requires
-sum-word-requires c κs = search needs
-
-difference-word-requires : tie.Need-difference-word-requires
-difference-word-requires c κs = search needs
-
-mean-word-requires : tie.Need-mean-word-requires
-mean-word-requires c κs = search needs
-
-largest-word-requires : tie.Need-largest-word-requires
-largest-word-requires c κs = search needs
-
 returns : tie.Need-returns
 unfolding kernelWord
 returns c = rw (c .match .keys1)
@@ -44,14 +32,5 @@ returns-6 c = sym (kernelWord-other _ _ _ (omega arith))
 pub kernel-word-spec : {M : Type 1} → statement M
 kernel-word-spec =
     tie.close
-    (tie.spec
-    sum-word-requires
-    difference-word-requires
-    mean-word-requires
-    largest-word-requires
-    returns
-    returns-2
-    returns-3
-    returns-4
-    returns-5
-    returns-6)
+    (tie.spec (λ c κs. search needs) (λ c κs. search needs) (λ c κs. search needs) (λ c κs. search needs) returns returns-2 returns-3 returns-4
+    returns-5 returns-6)

@@ -17,46 +17,13 @@ abbrev μ-loop : tie.MeasureT-loop
 loop-holds : tie.Need-loop-holds Inv-loop μ-loop
 loop-holds c = search (needs, any-none)
 
-mul-found : tie.Need-mul-found Inv-loop μ-loop
-mul-found c = search needs
-
-add-found : tie.Need-add-found Inv-loop μ-loop
-add-found c = search needs
-
-add-found-2 : tie.Need-add-found-2 Inv-loop μ-loop
-add-found-2 c = search needs
-
-mul-found-2 : tie.Need-mul-found-2 Inv-loop μ-loop
-mul-found-2 c = search needs
-
-shared-slice-read-found : tie.Need-shared-slice-read-found Inv-loop μ-loop
-shared-slice-read-found c = search needs
-
-add-a : tie.Need-add-a Inv-loop μ-loop
-add-a c = search needs
-
-loop-less : tie.Need-loop-less Inv-loop μ-loop
-loop-less c = search needs
-
 loop-again : tie.Need-loop-again Inv-loop μ-loop
-loop-again c = search (needs, any-more)
+loop-again c =
+    let turn = c .before .before in
+    (search needs, any-more _ _ _ _ (turn .loop .inv .1) (rw (c .access-at .ensures)))
 
 returns : tie.Need-returns Inv-loop μ-loop
 returns c = search (needs, any-done)
 
 pub is-named-spec : {M : Type 1} → statement M
-is-named-spec =
-    tie.close
-    (tie.spec
-    Inv-loop
-    μ-loop
-    loop-holds
-    mul-found
-    add-found
-    add-found-2
-    mul-found-2
-    shared-slice-read-found
-    add-a
-    loop-less
-    loop-again
-    returns)
+is-named-spec = tie.close (tie.spec Inv-loop μ-loop loop-holds (λ c κs. search needs) (λ c. search needs) (λ c. search needs) loop-again returns)

@@ -6,38 +6,14 @@ use Rattle.reader.proofs.Moves.{loop-late, move-at, move-open, start-la
 use Rattle.reader.proofs.take_record.Statement.{statement}
 use Rattle.reader.proofs.take_record.Tie as tie
 
-enum-known-record : tie.Need-enum-known-record
-enum-known-record c = search needs
-
-take-loop-requires : tie.Need-take-loop-requires
-take-loop-requires c κs = search needs
-
-same-length : tie.Need-same-length
-same-length c = search needs
-
 returns : tie.Need-returns
 returns c =
     let t = c .before .before in
     let i = t .before .before in
     move-at _ _ _ _ _ 0 _ (i .if1 .taken) (i .before .before .«record» .given .1) (t .take-loop .ensures _)
 
-enum-known-record-2 : tie.Need-enum-known-record-2
-enum-known-record-2 c = search needs
-
-take-start-requires : tie.Need-take-start-requires
-take-start-requires c κs = search needs
-
-same-length-2 : tie.Need-same-length-2
-same-length-2 c = search needs
-
-same-length-3 : tie.Need-same-length-3
-same-length-3 c = search needs
-
 returns-2 : tie.Need-returns-2
 returns-2 c = search (needs, move-at)
-
-enum-known-record-3 : tie.Need-enum-known-record-3
-enum-known-record-3 c = search needs
 
 returns-3 : tie.Need-returns-3
 returns-3 c = search (needs, move-at)
@@ -47,12 +23,6 @@ returns-4 c =
     let r = c .before .before .before in
     let h : 2 ≤ r .before .before .before .before .args .phase = omega arith in
     move-open _ _ _ _ _ _ h (r .record3 .given .1) refl
-
-take-begin-requires : tie.Need-take-begin-requires
-take-begin-requires c κs = search needs
-
-enum-known-record-4 : tie.Need-enum-known-record-4
-enum-known-record-4 c = search needs
 
 returns-5 : tie.Need-returns-5
 returns-5 c = search (needs, move-at)
@@ -66,32 +36,17 @@ take-access-requires c κs =
     let h : 2 ≤ s .args .phase = omega arith in
     (s .pre .words, s .pre .regions, s .pre .some h, s .pre .tasks, s .pre .count h)
 
-enum-told : tie.Need-enum-told
-enum-told c = search needs
-
-returns-7 : tie.Need-returns-7
-returns-7 c = search needs
-
-returns-8 : tie.Need-returns-8
-returns-8 c = search needs
-
 take-end-requires : tie.Need-take-end-requires
 take-end-requires c κs =
     let s = c .before .before .before .before .before .before .before in
     let h : 2 ≤ s .args .phase = omega arith in
     (s .pre .words, s .pre .some h, s .pre .tasks, s .pre .count h)
 
-enum-told-2 : tie.Need-enum-told-2
-enum-told-2 c = search needs
-
 returns-9 : tie.Need-returns-9
 returns-9 c = search (needs, loop-late)
 
 returns-10 : tie.Need-returns-10
 returns-10 c = search (needs, start-late)
-
-same-length-4 : tie.Need-same-length-4
-same-length-4 c = search needs
 
 returns-11 : tie.Need-returns-11
 returns-11 c =
@@ -100,18 +55,12 @@ returns-11 c =
     let e : r .before .before .before .before .args .phase ≡ 1 = omega arith in
     move-at _ _ _ _ _ 1 _ e (r .record3 .given .1) (t .take-begin .ensures _)
 
-same-length-5 : tie.Need-same-length-5
-same-length-5 c = search needs
-
 returns-12 : tie.Need-returns-12
 returns-12 c =
     let t = c .before .before in
     let r = t .before .before .before .before .before in
     let h : 2 ≤ r .before .before .before .before .args .phase = omega arith in
     move-open _ _ _ _ _ _ h (r .record4 .given .1) (t .take-access .ensures _)
-
-same-length-6 : tie.Need-same-length-6
-same-length-6 c = search needs
 
 returns-13 : tie.Need-returns-13
 returns-13 c =
@@ -125,35 +74,7 @@ returns-14 c = search (needs, unreadable-stops)
 pub take-record-spec : {M : Type 1} → statement M
 take-record-spec =
     tie.close
-    (tie.spec
-    enum-known-record
-    take-loop-requires
-    same-length
-    returns
-    enum-known-record-2
-    take-start-requires
-    same-length-2
-    same-length-3
-    returns-2
-    enum-known-record-3
-    returns-3
-    returns-4
-    take-begin-requires
-    enum-known-record-4
-    returns-5
-    returns-6
-    take-access-requires
-    enum-told
-    returns-7
-    returns-8
-    take-end-requires
-    enum-told-2
-    returns-9
-    returns-10
-    same-length-4
-    returns-11
-    same-length-5
-    returns-12
-    same-length-6
-    returns-13
-    returns-14)
+    (tie.spec (λ c. search needs) (λ c κs. search needs) (λ c. search needs) returns (λ c. search needs) (λ c κs. search needs) (λ c. search needs)
+    (λ c. search needs) returns-2 (λ c. search needs) returns-3 returns-4 (λ c κs. search needs) (λ c. search needs) returns-5 returns-6
+    take-access-requires (λ c. search needs) (λ c. search needs) (λ c. search needs) take-end-requires (λ c. search needs) returns-9 returns-10
+    (λ c. search needs) returns-11 (λ c. search needs) returns-12 (λ c. search needs) returns-13 returns-14)

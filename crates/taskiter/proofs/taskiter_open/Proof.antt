@@ -1,70 +1,54 @@
+use mathlib.Core.Path.{sym, _∙_}
 use borrow.Author.Needs.{needs}
-use mathlib.Core.Path.{_≡_, sym, _∙_}
-use mathlib.Core.Bool.{false}
 use denote.Ref.{now}
+use lib.Dec.{leb}
+use lib.ListN.{length}
 use lib.Seq.{length-take-le}
-use Rattle.steps.proofs.Answering.{shortTest, lengths, open-short}
-use Rattle.taskiter.proofs.Calling.{open-stopped, open-asks-counts, open-asks-values, open-done}
+use Rattle.finite.proofs.Tests.{and-true}
+use Rattle.plan.specs.Sizes.{countWords, valueWords}
+use Rattle.steps.proofs.Answering.{open-short}
+use Rattle.taskiter.proofs.Exported.{graph-room, door-long, slice-long, open-refused, open-passed}
 use Rattle.taskiter.proofs.taskiter_open.Statement.{statement}
 use Rattle.taskiter.proofs.taskiter_open.Tie as tie
 
--- the slices are long enough
-long-of : (c : tie.Else1) → shortTest (now ((c .before .before .before .before .before) .args .plan)) (now ((c .before .before .before .before .before) .args .counts)) (now ((c .before .before .before .before .before) .args .values)) ≡ false
-long-of c = sym (c .before .is-short .ensures) ∙ c .if1 .left
-
-is-short-requires : tie.Need-is-short-requires
-is-short-requires c κs = search needs
-
 returns : tie.Need-returns
-returns c = open-short (now ((c .before .before .before .before .before) .args .plan)) (now ((c .before .before .before .before .before) .args .counts)) (now ((c .before .before .before .before .before) .args .values)) (sym ((c .before) .is-short .ensures) ∙ (c .if1 .taken))
-
-slice-aggregate-words : tie.Need-slice-aggregate-words
-slice-aggregate-words c = sym (length-take-le _ (now ((c .before .before .before .before .before .before) .args .plan)) (lengths (now ((c .before .before .before .before .before .before) .args .plan)) (now ((c .before .before .before .before .before .before) .args .counts)) (now ((c .before .before .before .before .before .before) .args .values)) (long-of (c .before)) .0))
-
-slice-aggregate-items : tie.Need-slice-aggregate-items
-slice-aggregate-items c = search needs
-
-items-requires : tie.Need-items-requires
-items-requires c κs = search needs
+returns c =
+    let s = c .before .before .before .before .before in
+    open-short (now (s .args .plan)) (now (s .args .counts)) (now (s .args .values)) (sym ((c .before) .is-short .ensures) ∙ c .if1 .taken)
 
 returns-2 : tie.Need-returns-2
-returns-2 c = open-stopped (now ((c .before .before .before .before .before .before .before .before .before .before .before) .args .plan)) (now ((c .before .before .before .before .before .before .before .before .before .before .before) .args .counts)) (now ((c .before .before .before .before .before .before .before .before .before .before .before) .args .values)) (long-of (c .before .before .before .before .before .before)) _ _ _ (search needs) ((c .before .before .before) .items2 .ensures) (c .if2 .taken)
+returns-2 c =
+    let enter-plan = c .before .before .before in
+    let s = enter-plan .before .before .before .before .before .before .before in
+    open-refused (now (s .args .plan)) (now (s .args .counts)) (now (s .args .values)) _ _ _ (enter-plan .enter-plan .ensures) (c .if2 .taken)
 
-as-index-requires : tie.Need-as-index-requires
-as-index-requires c κs = search needs
+slice-aggregate-open-clear : tie.Need-slice-aggregate-open-clear
+slice-aggregate-open-clear c =
+    let P = now ((c .before .before .before .before .before .before .before .before .before .before .before) .args .plan) in
+    sym (length-take-le _ P (graph-room P _ _ ((c .before .before .before .before) .enter-plan .ensures .clear ((c .before) .if2 .left))))
 
-clear-counts-requires : tie.Need-clear-counts-requires
-clear-counts-requires c κs = open-asks-counts (now ((c .before .before .before .before .before .before .before .before .before .before .before .before .before) .args .plan)) (now ((c .before .before .before .before .before .before .before .before .before .before .before .before .before) .args .counts)) (now ((c .before .before .before .before .before .before .before .before .before .before .before .before .before) .args .values)) (long-of (c .before .before .before .before .before .before .before .before)) _ _ _ (search needs) ((c .before .before .before .before .before) .items2 .ensures) ((c .before .before) .if2 .left) _ ((c .before) .as-index .ensures)
-
-slice-aggregate-open-values : tie.Need-slice-aggregate-open-values
-slice-aggregate-open-values c = search needs
-
-open-values-requires : tie.Need-open-values-requires
-open-values-requires c κs = open-asks-values (now ((c .before .before .before .before .before .before .before .before .before .before .before .before .before .before .before .before .before .before) .args .plan)) (now ((c .before .before .before .before .before .before .before .before .before .before .before .before .before .before .before .before .before .before) .args .counts)) (now ((c .before .before .before .before .before .before .before .before .before .before .before .before .before .before .before .before .before .before) .args .values)) (long-of (c .before .before .before .before .before .before .before .before .before .before .before .before .before)) _ _ _ (search needs) ((c .before .before .before .before .before .before .before .before .before .before) .items2 .ensures) ((c .before .before .before .before .before .before .before) .if2 .left) _ ((c .before .before .before .before .before .before) .as-index .ensures) (let l = open-asks-counts (now ((c .before .before .before .before .before .before .before .before .before .before .before .before .before .before .before .before .before .before) .args .plan)) (now ((c .before .before .before .before .before .before .before .before .before .before .before .before .before .before .before .before .before .before) .args .counts)) (now ((c .before .before .before .before .before .before .before .before .before .before .before .before .before .before .before .before .before .before) .args .values)) (long-of (c .before .before .before .before .before .before .before .before .before .before .before .before .before)) _ _ _ (search needs) ((c .before .before .before .before .before .before .before .before .before .before) .items2 .ensures) ((c .before .before .before .before .before .before .before) .if2 .left) _ ((c .before .before .before .before .before .before) .as-index .ensures) in search needs)
-
-same-length : tie.Need-same-length
-same-length c = search needs
-
-same-length-2 : tie.Need-same-length-2
-same-length-2 c = search needs
+open-clear-requires : tie.Need-open-clear-requires
+open-clear-requires c κs =
+    let s = (c .before .before .before .before .before .before .before .before .before .before .before .before .before .before) in
+    let C = now (s .args .counts) in
+    let W = now (s .args .values) in
+    let B = (c .before .before .before .before .before .before .before) .enter-plan .ensures in
+    let z = (c .before .before .before .before) .if2 .left in
+    let l = and-true (leb countWords (length C)) (leb valueWords (length W)) (door-long (now (s .args .plan)) _ _ _ _ B z) in
+    (B .clear z, slice-long countWords C (l .0), slice-long valueWords W (l .1))
 
 returns-3 : tie.Need-returns-3
-returns-3 c = open-done (now ((c .before .before .before .before .before .before .before .before .before .before .before .before .before .before .before .before .before .before .before .before .before) .args .plan)) (now ((c .before .before .before .before .before .before .before .before .before .before .before .before .before .before .before .before .before .before .before .before .before) .args .counts)) (now ((c .before .before .before .before .before .before .before .before .before .before .before .before .before .before .before .before .before .before .before .before .before) .args .values)) (long-of (c .before .before .before .before .before .before .before .before .before .before .before .before .before .before .before .before)) _ _ _ (search needs) ((c .before .before .before .before .before .before .before .before .before .before .before .before .before) .items2 .ensures) ((c .before .before .before .before .before .before .before .before .before .before) .if2 .left) _ ((c .before .before .before .before .before .before .before .before .before) .as-index .ensures) _ _ ((c .before .before .before .before .before .before .before) .clear-counts .ensures) ((c .before .before) .open-values .ensures)
+returns-3 c =
+    let open-clear = c .before .before .before .before in
+    let else2 = open-clear .before .before .before .before .before in
+    let enter-plan = else2 .before .before .before in
+    let s = enter-plan .before .before .before .before .before .before .before in
+    let P = now (s .args .plan) in
+    open-passed P (now (s .args .counts)) (now (s .args .values)) (graph-room P _ _ (enter-plan .enter-plan .ensures .clear (else2 .if2 .left))) _
+    (open-clear .open-clear .ensures)
 
 pub taskiter-open-spec : {M : Type 1} → statement M
 taskiter-open-spec =
     tie.close
-    (tie.spec
-    is-short-requires
-    returns
-    slice-aggregate-words
-    slice-aggregate-items
-    items-requires
-    returns-2
-    as-index-requires
-    clear-counts-requires
-    slice-aggregate-open-values
-    open-values-requires
-    same-length
-    same-length-2
-    returns-3)
+    (tie.spec (λ c κs. search needs) returns (λ c. search needs) (λ c κs. search needs) returns-2 slice-aggregate-open-clear open-clear-requires
+    (λ c. search needs) (λ c. search needs) returns-3)

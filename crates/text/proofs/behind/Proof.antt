@@ -6,31 +6,11 @@ use borrow.Author.Needs.{needs}
 use Rattle.text.proofs.behind.Statement.{statement}
 use Rattle.text.proofs.behind.Tie as tie
 
-slice-aggregate-result : tie.Need-slice-aggregate-result
-slice-aggregate-result c = search needs
-
 returns : tie.Need-returns
 returns c = rw (drop-of-length-le (now (c .before .before .args .t)) (le-of-lt (c .before .if1 .taken)))
-
-sub-result : tie.Need-sub-result
-sub-result c = search needs
-
-part-result-start : tie.Need-part-result-start
-part-result-start c = search needs
-
-part-result-end : tie.Need-part-result-end
-part-result-end c = search needs
 
 returns-2 : tie.Need-returns-2
 returns-2 c = rest (now (c .before .before .args .t)) (c .before .before .args .n)
 
 pub behind-spec : {M : Type 1} → statement M
-behind-spec =
-    tie.close
-    (tie.spec
-    slice-aggregate-result
-    returns
-    sub-result
-    part-result-start
-    part-result-end
-    returns-2)
+behind-spec = tie.close (tie.spec (λ c. search needs) returns (λ c. search needs) (λ c. search needs) (λ c. search needs) returns-2)

@@ -22,34 +22,19 @@ more c =
     let d = digit-at (now (at .before .before .args .f)) (at .loop .i) (c .before .before .loop-test .taken) (at .before .before .pre .1) in
     ten-times (at .loop .i) (at .loop .value) (c .wide .result) (search needs) (at .loop .inv .1) (omega arith)
 
-loop-holds : tie.Need-loop-holds Inv-loop μ-loop
-loop-holds c = search needs
-
 mul-value : tie.Need-mul-value Inv-loop μ-loop
 mul-value c =
     let at = c .before in
     omega (arith, ten-times (at .loop .i) (at .loop .value) 0 (search needs) (at .loop .inv .1) (omega arith) .fits)
-
-shared-slice-read-wide : tie.Need-shared-slice-read-wide Inv-loop μ-loop
-shared-slice-read-wide c = search needs
 
 sub-wide : tie.Need-sub-wide Inv-loop μ-loop
 sub-wide c =
     let at = c .before .before in
     omega (arith, digit-at (now (at .before .before .args .f)) (at .loop .i) (c .before .loop-test .taken) (at .before .before .pre .1))
 
-wide-requires : tie.Need-wide-requires Inv-loop μ-loop
-wide-requires c κs = search needs
-
 add-value : tie.Need-add-value Inv-loop μ-loop
 add-value c =
     omega (arith, more c .fits)
-
-add-i : tie.Need-add-i Inv-loop μ-loop
-add-i c = search needs
-
-loop-less : tie.Need-loop-less Inv-loop μ-loop
-loop-less c = search needs
 
 loop-again : tie.Need-loop-again Inv-loop μ-loop
 loop-again c =
@@ -64,16 +49,5 @@ returns c =
 pub decimal-spec : {M : Type 1} → statement M
 decimal-spec =
     tie.close
-    (tie.spec
-    Inv-loop
-    μ-loop
-    loop-holds
-    mul-value
-    shared-slice-read-wide
-    sub-wide
-    wide-requires
-    add-value
-    add-i
-    loop-less
-    loop-again
-    returns)
+    (tie.spec Inv-loop μ-loop (λ c. search needs) mul-value (λ c. search needs) sub-wide (λ c κs. search needs) add-value (λ c. search needs)
+    (λ c. search needs) loop-again returns)

@@ -6,9 +6,6 @@ use borrow.Author.Needs.{needs}
 use Rattle.text.proofs.first_field.Statement.{statement}
 use Rattle.text.proofs.first_field.Tie as tie
 
-find-requires : tie.Need-find-requires
-find-requires c κs = search needs
-
 slice-aggregate-result : tie.Need-slice-aggregate-result
 slice-aggregate-result c =
     let t = now (c .before .before .before .args .t) in
@@ -18,4 +15,4 @@ returns : tie.Need-returns
 returns c = rw (c .before .find .ensures)
 
 pub first-field-spec : {M : Type 1} → statement M
-first-field-spec = tie.close (tie.spec find-requires slice-aggregate-result returns)
+first-field-spec = tie.close (tie.spec (λ c κs. search needs) slice-aggregate-result returns)

@@ -11,17 +11,13 @@ use Rattle.text.proofs.line_at.Statement.{statement}
 use Rattle.text.proofs.line_at.Tie as tie
 
 -- the line feed stands in the text
-within : (c : tie.After-record-of) → c .before .before .before .before .before .before .args .at + c .before .before .before .find .result < length (now (c .before .before .before .before .before .before .args .s))
+within : (c : tie.After-record-of) →
+    c .before .before .before .before .before .before .args .at + c .before .before .before .find .result
+    < length (now (c .before .before .before .before .before .before .args .s))
 within c =
     let found = c .before .before .before in
     let a = found .before .before .before .args in
     omega (arith, length-drop (a .at) (now (a .s)), ap length (found .before .behind .ensures))
-
-behind-requires : tie.Need-behind-requires
-behind-requires c κs = search needs
-
-find-requires : tie.Need-find-requires
-find-requires c κs = search needs
 
 returns : tie.Need-returns
 returns c =
@@ -31,9 +27,6 @@ returns c =
 
 slice-aggregate-record-of : tie.Need-slice-aggregate-record-of
 slice-aggregate-record-of c = sym (length-take-le _ _ (le-of-lt (c .before .if1 .left)))
-
-record-of-requires : tie.Need-record-of-requires
-record-of-requires c κs = search needs
 
 add-t5 : tie.Need-add-t5
 add-t5 c = omega (arith, within c)
@@ -58,12 +51,4 @@ returns-2 c =
 pub line-at-spec : {M : Type 1} → statement M
 line-at-spec =
     tie.close
-    (tie.spec
-    behind-requires
-    find-requires
-    returns
-    slice-aggregate-record-of
-    record-of-requires
-    add-t5
-    add-t10
-    returns-2)
+    (tie.spec (λ c κs. search needs) (λ c κs. search needs) returns slice-aggregate-record-of (λ c κs. search needs) add-t5 add-t10 returns-2)

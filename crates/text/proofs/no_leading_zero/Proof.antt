@@ -8,11 +8,8 @@ use Rattle.text.proofs.no_leading_zero.Tie as tie
 returns : tie.Need-returns
 returns c = sym (zero-one (now (c .before .args .f)) (search needs))
 
-shared-slice-read-result : tie.Need-shared-slice-read-result
-shared-slice-read-result c = search needs
-
 returns-2 : tie.Need-returns-2
 returns-2 c = sym (zero-more (now (c .before .before .args .f)) (search needs))
 
 pub no-leading-zero-spec : {M : Type 1} → statement M
-no-leading-zero-spec = tie.close (tie.spec returns shared-slice-read-result returns-2)
+no-leading-zero-spec = tie.close (tie.spec returns (λ c. search needs) returns-2)

@@ -24,9 +24,6 @@ value c =
     let n : length f ≡ 19 + 1 = omega (arith, well-formed-length f (formed (e2 .before))) in
     rw (decimal-last 19 f n, most .decimal2 .ensures, c .wide .ensures)
 
-well-formed-requires : tie.Need-well-formed-requires
-well-formed-requires c κs = search needs
-
 returns : tie.Need-returns
 returns c = sym (number-malformed _ (sym (c .before .well-formed .ensures) ∙ not-true _ (c .if1 .taken)))
 
@@ -45,29 +42,14 @@ decimal-requires-2 c κs =
     let f = now (e1 .before .before .before .args .f) in
     (omega (arith, length-take-le 19 f (omega arith)), digits-take 19 f (well-formed-digits f (formed e1)))
 
-shared-slice-read-wide : tie.Need-shared-slice-read-wide
-shared-slice-read-wide c = search needs
-
 sub-wide : tie.Need-sub-wide
 sub-wide c =
     let e2 = c .before .before .before in
     let f = now (e2 .before .before .before .before .args .f) in
     omega (arith, digit-at f 19 (omega arith) (well-formed-digits f (formed (e2 .before))))
 
-wide-requires : tie.Need-wide-requires
-wide-requires c κs = search needs
-
-sub-if3 : tie.Need-sub-if3
-sub-if3 c = search needs
-
 returns-3 : tie.Need-returns-3
 returns-3 c = sym (number-large _ (formed (c .before .before .before .before .before .before)) (omega (arith, value (c .before))))
-
-mul-t13 : tie.Need-mul-t13
-mul-t13 c = search needs
-
-add-t14 : tie.Need-add-t14
-add-t14 c = search needs
 
 returns-4 : tie.Need-returns-4
 returns-4 c = sym (number-value _ _ (formed (c .before .before .before .before .before .before)) (sym (value (c .before))) (search needs))
@@ -75,18 +57,5 @@ returns-4 c = sym (number-value _ _ (formed (c .before .before .before .before .
 pub number-of-spec : {M : Type 1} → statement M
 number-of-spec =
     tie.close
-    (tie.spec
-    well-formed-requires
-    returns
-    decimal-requires
-    returns-2
-    slice-aggregate-decimal
-    decimal-requires-2
-    shared-slice-read-wide
-    sub-wide
-    wide-requires
-    sub-if3
-    returns-3
-    mul-t13
-    add-t14
-    returns-4)
+    (tie.spec (λ c κs. search needs) returns decimal-requires returns-2 slice-aggregate-decimal decimal-requires-2 (λ c. search needs) sub-wide
+    (λ c κs. search needs) (λ c. search needs) returns-3 (λ c. search needs) (λ c. search needs) returns-4)

@@ -6,17 +6,11 @@ use borrow.Author.Needs.{needs}
 use Rattle.text.proofs.one_number.Statement.{statement}
 use Rattle.text.proofs.one_number.Tie as tie
 
-first-field-requires : tie.Need-first-field-requires
-first-field-requires c κs = search needs
-
 returns : tie.Need-returns
 returns c =
     let f = now (c .before .first-field .result) in
     let t = now (c .before .before .before .args .t) in
     rw (field-more t f (c .before .first-field .ensures) (c .if1 .taken), one-more 9 f (drop (length f + 1) t))
-
-number-of-requires : tie.Need-number-of-requires
-number-of-requires c κs = search needs
 
 returns-2 : tie.Need-returns-2
 returns-2 c =
@@ -25,4 +19,4 @@ returns-2 c =
     rw (field-last t _ (e1 .before .first-field .ensures) (e1 .if1 .left)) (c .number-of .ensures)
 
 pub one-number-spec : {M : Type 1} → statement M
-one-number-spec = tie.close (tie.spec first-field-requires returns number-of-requires returns-2)
+one-number-spec = tie.close (tie.spec (λ c κs. search needs) returns (λ c κs. search needs) returns-2)

@@ -1,5 +1,7 @@
--- `record_at`: a reader of the text is made, moved to the offset, and asked for its next line. Of the three methods nothing is known but their contracts.
--- The reader that one call returns lies in a local and is passed to the next. What the text owns is had twice: once for the parameter at exit, and once inside the readers.
+-- `record_at`: a reader of the text is made, moved to the offset, and asked for its next line. Of
+-- the three methods nothing is known but their contracts. The reader that one call returns lies in
+-- a local and is passed to the next. What the text owns is had twice: once for the parameter at
+-- exit, and once inside the readers.
 use mathlib.Core.Path.{_≡_, refl, ap, _∙_}
 use Prim.Native.Nat.{ℕ, _<_, _^_}
 use mathlib.Core.List.{List, [], _∷_}
@@ -93,15 +95,18 @@ module _ {M : Type 1} (𝓤 : URA M) (H : Heap 𝓤) (A : Atoms 𝓤) (W : Given
     abbrev Own : Fml
     Own = ShrSlice (named 0) κ u8 .own s (v ∷ [])
 
-    -- the calls: what each binds, at a reader d with the machine value u, and that what is had gives what it asks
+    -- the calls: what each binds, at a reader d with the machine value u, and that what is had
+    -- gives what it asks
     abbrev to-new : New 𝓤 H A mem run .Ghost
     to-new = (((κ, tt), (q, tt), tt, (s, tt), (v ∷ [], tt)), tt)
 
     asks-new : ent 𝓤 Entry (sep 𝓤 (New 𝓤 H A mem run .pre to-new) (sem 𝓤 H A Own))
     asks-new =
         qed W ((‵ (flft κ q) ⊛ ‵ ftrue) ∷ ‵ (owns (ShrSlice (named 0) κ u8 ∷ usize ∷ []) (s, (n, tt)) passed) ∷ []) ∵
-        move ! (1 ∷ []) $ fsplit ! $ move ! (1 ∷ []) $ drop ! $ use1 W (‵ Own ⊛ ‵ Own) (shr-slice-copy 𝓤 H A W (named 0) κ u8 .twice s (v ∷ [])) $ split ! $ nothing ! $ move ! (1 ∷ 0 ∷ []) $ fjoin ! $ move ! (2 ∷ 0 ∷ []) $
-        use2 W (raw (New 𝓤 H A mem run .pre to-new)) (qed W ((‵ (flft κ q) ⊛ ‵ ftrue) ∷ ‵ (owns (ShrSlice (named 0) κ u8 ∷ []) (s, tt) (v ∷ [], tt)) ∷ []) ∵ join ! $ frame ! $ done !) $ frame ! $ done !
+        move ! (1 ∷ []) $ fsplit ! $ move ! (1 ∷ []) $ drop ! $ use1 W (‵ Own ⊛ ‵ Own) (shr-slice-copy 𝓤 H A W (named 0) κ u8 .twice s (v ∷ [])) $ split ! $
+        nothing ! $ move ! (1 ∷ 0 ∷ []) $ fjoin ! $ move ! (2 ∷ 0 ∷ []) $
+        use2 W (raw (New 𝓤 H A mem run .pre to-new))
+        (qed W ((‵ (flft κ q) ⊛ ‵ ftrue) ∷ ‵ (owns (ShrSlice (named 0) κ u8 ∷ []) (s, tt) (v ∷ [], tt)) ∷ []) ∵ join ! $ frame ! $ done !) $ frame ! $ done !
 
     abbrev to-moved : LineReader → Val → Moved 𝓤 H A mem run .Ghost
     to-moved d u = (((κ, tt), (q, tt), tt, (d, (n, tt)), (u ∷ [], (vint w64 n ∷ [], tt))), tt)
@@ -122,7 +127,8 @@ module _ {M : Type 1} (𝓤 : URA M) (H : Heap 𝓤) (A : Atoms 𝓤) (W : Given
         suffices ! _ (ends-at 𝓤 H A record-at.ended stayed (record-at.clauses 𝓤 H A mem run) W (((κ, tt), (q, tt), tt, (s, (n, tt)), passed), tt) u r (tt, (tt, tt)) (tt, (tt, tt))) $ says ! e $
         move ! (1 ∷ []) $ frame ! $ nothing ! $ offset ! n ok $ fjoin ! $ move ! (2 ∷ 0 ∷ []) $ fjoin ! $ frame ! $ done !
 
-    module _ (C : Calls 𝓤 H) (Λ : Loops 𝓤 H) (fm : FmC 𝓤 H (W .laws) C) (known-new : Triple 𝓤 (C #new) (New 𝓤 H A mem run)) (known-moved : Triple 𝓤 (C #moved) (Moved 𝓤 H A mem run)) (known-next : Triple 𝓤 (C #next) (Next 𝓤 H A mem run)) where
+    module _ (C : Calls 𝓤 H) (Λ : Loops 𝓤 H) (fm : FmC 𝓤 H (W .laws) C)
+        (known-new : Triple 𝓤 (C #new) (New 𝓤 H A mem run)) (known-moved : Triple 𝓤 (C #moved) (Moved 𝓤 H A mem run)) (known-next : Triple 𝓤 (C #next) (Next 𝓤 H A mem run)) where
       walk : Is (ShrSlice (named 0) κ u8) s (v ∷ []) → ent 𝓤 Entry (WpFn 𝓤 H C Λ code.function (v ∷ vint w64 n ∷ []) Post)
       walk is =
           qed W (raw Entry ∷ []) ∵ enter ! C Λ code.function (v ∷ vint w64 n ∷ []) _ $
@@ -131,12 +137,15 @@ module _ {M : Type 1} (𝓤 : URA M) (H : Heap 𝓤) (A : Atoms 𝓤) (W : Given
           move ! (10 ∷ []) $ use1 W (raw (New 𝓤 H A mem run .pre to-new) ⊛ ‵ Own) asks-new $ split ! $
           calls-at ! fm (New 𝓤 H A mem run) known-new to-new (and-then ! (load ! (from ! (stop !)) (look ! 8 refl)) (no-more !)) (λ u.
           returned W tt (Reader κ) u (lasts new.ended (κ, tt) (s, tt)) (λ d. (d .text ≡ s) × (d .at ≡ 0)) (λ d made is-d.
-          -- [what d owns; the token; what s owns; room for _4; …; room for _3; …; _2; …; _1; …; room for _0; …]
+          -- [what d owns; the token; what s owns; room for _4; …; room for _3; …; _2; …; _1; …;
+          -- room for _0; …]
           land ! (from ! (stop !)) (init ! 3 refl (LL.lawful (T.the-type (unnamed κ)) (T′.the-laws (unnamed κ)) 𝓤 H A W .typed d _ is-d .0)) $
           use2 W (raw (Moved 𝓤 H A mem run .pre (to-moved d u))) (asks-moved d u) $
-          calls-at ! fm (Moved 𝓤 H A mem run) known-moved (to-moved d u) (and-then ! (load ! (from ! (stop !)) (look ! 2 refl)) (and-then ! (load ! (from ! (stop !)) (look ! 6 refl)) (no-more !))) (λ w.
+          calls-at ! fm (Moved 𝓤 H A mem run) known-moved (to-moved d u)
+          (and-then ! (load ! (from ! (stop !)) (look ! 2 refl)) (and-then ! (load ! (from ! (stop !)) (look ! 6 refl)) (no-more !))) (λ w.
           returned W tt (Reader κ) w (lasts moved.ended (κ, tt) (d, (n, tt))) (λ p. (p .text ≡ d .text) × (p .at ≡ n)) (λ p went is-p.
-          -- [what p owns; the token; what s owns; _4; …; room for _3; …; _2; …; _1; …; room for _0; …]
+          -- [what p owns; the token; what s owns; _4; …; room for _3; …; _2; …; _1; …; room for _0;
+          -- …]
           land ! (from ! (stop !)) (init ! 5 refl (LL.lawful (T.the-type (unnamed κ)) (T′.the-laws (unnamed κ)) 𝓤 H A W .typed p _ is-p .0)) $
           use2 W (raw (Next 𝓤 H A mem run .pre (to-next p w))) (asks-next p w) $
           calls-at ! fm (Next 𝓤 H A mem run) known-next (to-next p w) (and-then ! (load ! (from ! (stop !)) (look ! 4 refl)) (no-more !)) (λ x.
@@ -150,9 +159,10 @@ module _ {M : Type 1} (𝓤 : URA M) (H : Heap 𝓤) (A : Atoms 𝓤) (W : Given
   meets : (𝓣 : Tables 𝓤 H) → Triple 𝓤 (𝓣 .C #new) (New 𝓤 H A mem run) → Triple 𝓤 (𝓣 .C #moved) (Moved 𝓤 H A mem run) → Triple 𝓤 (𝓣 .C #next) (Next 𝓤 H A mem run)
       → Meets 𝓤 H A record-at.signature (WpFn 𝓤 H (𝓣 .C) (𝓣 .Λ) code.function) (record-at.spec 𝓤 H A mem run)
   meets 𝓣 known-new known-moved known-next =
-      walk-meets 𝓤 H A record-at.ended stayed W (goes-none-slice 𝓤 H A W 1 (0 ∷ []) tt (plain (λ _. u8)) yes, (goes-none 𝓤 H A W 1 (λ _. usize) yes (λ κs x f. refl), tt)) (record-at.clauses 𝓤 H A mem run)
-      (WpFn 𝓤 H (𝓣 .C) (𝓣 .Λ) code.function) (WpFn-mono 𝓤 H (W .laws) 𝓣 code.function)
-      (walked 𝓤 H A record-at.ended stayed (record-at.clauses 𝓤 H A mem run) (WpFn 𝓤 H (𝓣 .C) (𝓣 .Λ) code.function) (λ κs. (slice-vals, (uint-vals w64, tt))) (λ κs. (shr-slice-tells (named 0) (κs .0) u8, (uint-tells w64, tt)))
+      walk-meets 𝓤 H A record-at.ended stayed W (goes-none-slice 𝓤 H A W 1 (0 ∷ []) tt (plain (λ _. u8)) yes, (goes-none 𝓤 H A W 1 (λ _. usize) yes (λ κs x f. refl), tt))
+      (record-at.clauses 𝓤 H A mem run) (WpFn 𝓤 H (𝓣 .C) (𝓣 .Λ) code.function) (WpFn-mono 𝓤 H (W .laws) 𝓣 code.function)
+      (walked 𝓤 H A record-at.ended stayed (record-at.clauses 𝓤 H A mem run) (WpFn 𝓤 H (𝓣 .C) (𝓣 .Λ) code.function)
+      (λ κs. (slice-vals, (uint-vals w64, tt))) (λ κs. (shr-slice-tells (named 0) (κs .0) u8, (uint-tells w64, tt)))
       (λ κs qs bounds a g are. via 𝓤 _ (fst∗ 𝓤 _ (emp 𝓤)) (walk (κs .0) (qs .0) (a .0) (a .1 .0) (are .1 .0 .1) (𝓣 .C) (𝓣 .Λ) (fmOf 𝓤 H (W .laws) 𝓣) known-new known-moved known-next (are .0))))
 
 pub record-at-spec : {M : Type 1} → stated.statement M

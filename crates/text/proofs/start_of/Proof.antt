@@ -2,17 +2,8 @@ use borrow.Author.Needs.{needs}
 use Rattle.text.proofs.start_of.Statement.{statement}
 use Rattle.text.proofs.start_of.Tie as tie
 
-enum-known-x : tie.Need-enum-known-x
-enum-known-x c = search needs
-
-enum-told : tie.Need-enum-told
-enum-told c = search needs
-
 returns : tie.Need-returns
 returns c = rw (c .before .x .given .1)
 
-returns-2 : tie.Need-returns-2
-returns-2 c = search needs
-
 pub start-of-spec : {M : Type 1} → statement M
-start-of-spec = tie.close (tie.spec enum-known-x enum-told returns returns-2)
+start-of-spec = tie.close (tie.spec (λ c. search needs) (λ c. search needs) returns (λ c. search needs))

@@ -15,31 +15,10 @@ known c =
     let t = now (num .before .before .before .before .args .t) in
     rw (field-more t _ (field .ensures) (num .before .if1 .left), num .number-of .ensures, c .one-number .ensures, c .before .behind .ensures)
 
-first-field-requires : tie.Need-first-field-requires
-first-field-requires c κs = search needs
-
 returns : tie.Need-returns
 returns c =
     let t = now (c .before .before .before .args .t) in
     rw (field-last t _ (c .before .first-field .ensures) (c .if1 .taken), and-false)
-
-number-of-requires : tie.Need-number-of-requires
-number-of-requires c κs = search needs
-
-add-behind : tie.Need-add-behind
-add-behind c = search needs
-
-behind-requires : tie.Need-behind-requires
-behind-requires c κs = search needs
-
-one-number-requires : tie.Need-one-number-requires
-one-number-requires c κs = search needs
-
-is-sound-requires : tie.Need-is-sound-requires
-is-sound-requires c κs = search needs
-
-is-sound-requires-2 : tie.Need-is-sound-requires-2
-is-sound-requires-2 c κs = search needs
 
 returns-2 : tie.Need-returns-2
 returns-2 c =
@@ -54,14 +33,5 @@ returns-3 c =
 pub two-numbers-spec : {M : Type 1} → statement M
 two-numbers-spec =
     tie.close
-    (tie.spec
-    first-field-requires
-    returns
-    number-of-requires
-    add-behind
-    behind-requires
-    one-number-requires
-    is-sound-requires
-    is-sound-requires-2
-    returns-2
-    returns-3)
+    (tie.spec (λ c κs. search needs) returns (λ c κs. search needs) (λ c. search needs) (λ c κs. search needs) (λ c κs. search needs)
+    (λ c κs. search needs) (λ c κs. search needs) returns-2 returns-3)

@@ -1,5 +1,6 @@
--- `LineReader::moved`: a reader is made anew, of the text that the one passed holds and another offset.
--- A reader can be copied: what it owns is had twice, for the parameter at exit and, with the offset in the place of the old one, for the result.
+-- `LineReader::moved`: a reader is made anew, of the text that the one passed holds and another
+-- offset. A reader can be copied: what it owns is had twice, for the parameter at exit and, with
+-- the offset in the place of the old one, for the result.
 use mathlib.Core.Path.{refl}
 use Prim.Native.Nat.{ℕ, _<_, _^_}
 use mathlib.Core.List.{[], _∷_}
@@ -64,8 +65,8 @@ module _ {M : Type 1} (𝓤 : URA M) (H : Heap 𝓤) (A : Atoms 𝓤) (W : Given
     exits : ent 𝓤 Entry (Post (T′.lowered made))
     exits =
         qed W ((‵ (flft κ q) ⊛ ‵ ftrue) ∷ ‵ (owns (Reader κ ∷ usize ∷ []) (d, (n, tt)) passed) ∷ []) ∵
-        suffices ! _ (ends-at 𝓤 H A moved.ended stayed (moved.clauses 𝓤 H A mem run) W (((κ, tt), (q, tt), tt, (d, (n, tt)), passed), tt) (T′.lowered made) made (tt, (tt, tt)) (tt, (tt, tt))) $ says ! (refl, refl) $
-        frame ! $ fsplit ! $ use1 W (‵ Own ⊛ ‵ Own) (twice 𝓤 H A W κ d (v ∷ [])) $ split ! $ move ! (0 ∷ 2 ∷ []) $ fjoin ! $ frame ! $
+        suffices ! _ (ends-at 𝓤 H A moved.ended stayed (moved.clauses 𝓤 H A mem run) W (((κ, tt), (q, tt), tt, (d, (n, tt)), passed), tt) (T′.lowered made) made
+        (tt, (tt, tt)) (tt, (tt, tt))) $ says ! (refl, refl) $ frame ! $ fsplit ! $ use1 W (‵ Own ⊛ ‵ Own) (twice 𝓤 H A W κ d (v ∷ [])) $ split ! $ move ! (0 ∷ 2 ∷ []) $ fjoin ! $ frame ! $
         -- [what d owns]: n takes the place of its offset
         offset ! n ok $ move ! (1 ∷ 0 ∷ []) $ by ! (own-put 𝓤 H A W (fields κ) (laws κ) 1 (d .text, (d .at, tt)) n v)
 
@@ -74,7 +75,8 @@ module _ {M : Type 1} (𝓤 : URA M) (H : Heap 𝓤) (A : Atoms 𝓤) (W : Given
         qed W (raw Entry ∷ []) ∵ enter ! C Λ code.function (v ∷ vint w64 n ∷ []) _ $
         alloc1 ! (λ l₀. alloc1 ! (λ l₁. alloc1 ! (λ l₂. alloc1 ! (λ l₃. alloc0 ! $ params1 ! $ pass1 ! (init ! 4 refl typed) $ pass1 ! (init ! 2 refl (tt, record { fits = ok })) $ pass0 ! $
         assigns ! (of-opd ! (load ! (from ! (fld ! refl (stop !))) (look-in ! 4 (sub ! 0 refl (whole !))))) (from ! (stop !)) (init ! 0 refl (tt, typed .1 .0)) $
-        assigns ! (agg ! (and-then ! (load ! (from ! (stop !)) (look ! 0 refl)) (and-then ! (load ! (from ! (stop !)) (look ! 2 refl)) (no-more !)))) (from ! (stop !)) (init ! 6 refl (tt, (typed .1 .0, (record { fits = ok }, tt)))) $
+        assigns ! (agg ! (and-then ! (load ! (from ! (stop !)) (look ! 0 refl)) (and-then ! (load ! (from ! (stop !)) (look ! 2 refl)) (no-more !))))
+        (from ! (stop !)) (init ! 6 refl (tt, (typed .1 .0, (record { fits = ok }, tt)))) $
         returns ! (look ! 6 refl) $ forget ! 0 refl $ forget ! 2 refl $ forget ! 4 refl $ forget ! 6 refl $
         move ! (6 ∷ 7 ∷ []) $ free1 ! $ move ! (4 ∷ 5 ∷ []) $ free1 ! $ move ! (2 ∷ 3 ∷ []) $ free1 ! $ free1 ! $ free0 ! $ by ! exits))))
 
@@ -84,7 +86,8 @@ module _ {M : Type 1} (𝓤 : URA M) (H : Heap 𝓤) (A : Atoms 𝓤) (W : Given
       (WpFn 𝓤 H (𝓣 .C) (𝓣 .Λ) code.function) (WpFn-mono 𝓤 H (W .laws) 𝓣 code.function)
       (walked 𝓤 H A moved.ended stayed (moved.clauses 𝓤 H A mem run) (WpFn 𝓤 H (𝓣 .C) (𝓣 .Λ) code.function)
       (λ κs. (LL.vals (fields (κs .0)) (laws (κs .0)), (uint-vals w64, tt))) (λ κs. (LL.tells (fields (κs .0)) (laws (κs .0)), (uint-tells w64, tt)))
-      (λ κs qs bounds a g are. via 𝓤 _ (fst∗ 𝓤 _ (emp 𝓤)) (walk (κs .0) (qs .0) (a .0) (a .1 .0) (are .1 .0 .1) (𝓣 .C) (𝓣 .Λ) (LL.lawful (fields (κs .0)) (laws (κs .0)) 𝓤 H A W .typed (a .0) _ (are .0) .0))))
+      (λ κs qs bounds a g are. via 𝓤 _ (fst∗ 𝓤 _ (emp 𝓤)) (walk (κs .0) (qs .0) (a .0) (a .1 .0) (are .1 .0 .1) (𝓣 .C) (𝓣 .Λ)
+      (LL.lawful (fields (κs .0)) (laws (κs .0)) 𝓤 H A W .typed (a .0) _ (are .0) .0))))
 
 pub moved-spec : {M : Type 1} → stated.statement M
 unfolding code.routine tablesOf

@@ -1,5 +1,7 @@
--- `LineReader::next`: the reader is taken apart, and `line_at` is called on the text and the offset. Of `line_at` nothing is known but its contract.
--- A reader can be copied: what it owns is had twice, for the parameter at exit, and of the other what the text owns goes to the callee, beside the lifetime's token, which comes back.
+-- `LineReader::next`: the reader is taken apart, and `line_at` is called on the text and the
+-- offset. Of `line_at` nothing is known but its contract. A reader can be copied: what it owns is
+-- had twice, for the parameter at exit, and of the other what the text owns goes to the callee,
+-- beside the lifetime's token, which comes back.
 use mathlib.Core.Path.{_≡_, refl}
 use Prim.Native.Nat.{_<_, _^_}
 use mathlib.Core.List.{[], _∷_}
@@ -96,7 +98,8 @@ module _ {M : Type 1} (𝓤 : URA M) (H : Heap 𝓤) (A : Atoms 𝓤) (W : Given
         qed W ((‵ (flft κ q) ⊛ ‵ ftrue) ∷ ‵ (owns (Reader κ ∷ []) (d, tt) (v ∷ [], tt)) ∷ []) ∵
         move ! (1 ∷ []) $ fsplit ! $ move ! (1 ∷ []) $ drop ! $ use1 W (‵ Own ⊛ ‵ Own) (twice 𝓤 H A W κ d (v ∷ [])) $ split ! $
         use1 W (given (v ∷ [] ≡ v ∷ []) (‵ (all-own (fields κ .parts) (laws κ) (d .text, (d .at, tt))))) (own-open 𝓤 H A W (fields κ) (laws κ) (d .text, (d .at, tt)) v) $ learn ! (λ _.
-        use1 W (‵ (ownAt (fields κ .parts) (laws κ) 0 (d .text)) ⊛ ‵ (rest (fields κ .parts) (laws κ) 0 (d .text, (d .at, tt)))) (own-out 𝓤 H A W (fields κ .parts) (laws κ) 0 (d .text, (d .at, tt))) $ split ! $
+        use1 W (‵ (ownAt (fields κ .parts) (laws κ) 0 (d .text)) ⊛ ‵ (rest (fields κ .parts) (laws κ) 0 (d .text, (d .at, tt))))
+        (own-out 𝓤 H A W (fields κ .parts) (laws κ) 0 (d .text, (d .at, tt))) $ split ! $
         -- [what the text owns; what the offset owns; what d owns; the token]
         move ! (1 ∷ []) $ drop ! $ nothing ! $ offset ! (d .at) ok $ fjoin ! $ move ! (1 ∷ 0 ∷ []) $ fjoin ! $ move ! (2 ∷ 0 ∷ []) $ use2 W (raw Asked) asks $ frame ! $ done !)
 
@@ -106,14 +109,16 @@ module _ {M : Type 1} (𝓤 : URA M) (H : Heap 𝓤) (A : Atoms 𝓤) (W : Given
         suffices ! _ (ends-at 𝓤 H A next.ended stayed (next.clauses 𝓤 H A mem run) W (((κ, tt), (q, tt), tt, (d, tt), (v ∷ [], tt)), tt) u r (tt, tt) (tt, tt)) $ says ! e $
         move ! (1 ∷ []) $ frame ! $ nothing ! $ move ! (2 ∷ 0 ∷ []) $ fjoin ! $ frame ! $ done !
 
-    walk : (C : Calls 𝓤 H) (Λ : Loops 𝓤 H) → FmC 𝓤 H (W .laws) C → Triple 𝓤 (C #line-at) (LineAt 𝓤 H A mem run) → Holds (hasTy (T′.mir (named 0)) v) × WT v → ent 𝓤 Entry (WpFn 𝓤 H C Λ code.function (v ∷ []) Post)
+    walk : (C : Calls 𝓤 H) (Λ : Loops 𝓤 H) → FmC 𝓤 H (W .laws) C → Triple 𝓤 (C #line-at) (LineAt 𝓤 H A mem run) → Holds (hasTy (T′.mir (named 0)) v) × WT v →
+        ent 𝓤 Entry (WpFn 𝓤 H C Λ code.function (v ∷ []) Post)
     walk C Λ fm known typed =
         qed W (raw Entry ∷ []) ∵ enter ! C Λ code.function (v ∷ []) _ $
         alloc1 ! (λ l₀. alloc1 ! (λ l₁. alloc1 ! (λ l₂. alloc1 ! (λ l₃. alloc0 ! $ params1 ! $ pass1 ! (init ! 4 refl typed) $ pass0 ! $
         assigns ! (of-opd ! (load ! (from ! (fld ! refl (stop !))) (look-in ! 4 (sub ! 0 refl (whole !))))) (from ! (stop !)) (init ! 2 refl (tt, typed .1 .0)) $
         assigns ! (of-opd ! (load ! (from ! (fld ! refl (stop !))) (look-in ! 4 (sub ! 1 refl (whole !))))) (from ! (stop !)) (init ! 0 refl (tt, typed .1 .1 .0)) $
         move ! (8 ∷ []) $ use1 W (raw Asked ⊛ ‵ Own) (apart (typed .1 .1 .0 .fits)) $ split ! $
-        calls-at ! fm (LineAt 𝓤 H A mem run) known (((κ, tt), (q, tt), tt, (d .text, (d .at, tt)), passed), tt) (and-then ! (load ! (from ! (stop !)) (look ! 4 refl)) (and-then ! (load ! (from ! (stop !)) (look ! 2 refl)) (no-more !))) (λ u.
+        calls-at ! fm (LineAt 𝓤 H A mem run) known (((κ, tt), (q, tt), tt, (d .text, (d .at, tt)), passed), tt)
+        (and-then ! (load ! (from ! (stop !)) (look ! 4 refl)) (and-then ! (load ! (from ! (stop !)) (look ! 2 refl)) (no-more !))) (λ u.
         returned W tt S.the-row u (lasts line-at.ended (κ, tt) (d .text, (d .at, tt))) (λ r. r ≡ found) (λ r e is.
         -- [the result; the token; what d owns; _3; …; _2; …; _1; …; room for _0; …]
         land ! (from ! (stop !)) (init ! 9 refl (EL.lawful S.the-type S′.the-laws 𝓤 H A W tt .typed r _ is .0)) $
@@ -122,9 +127,12 @@ module _ {M : Type 1} (𝓤 : URA M) (H : Heap 𝓤) (A : Atoms 𝓤) (W : Given
 
   meets : (𝓣 : Tables 𝓤 H) → Triple 𝓤 (𝓣 .C #line-at) (LineAt 𝓤 H A mem run) → Meets 𝓤 H A next.signature (WpFn 𝓤 H (𝓣 .C) (𝓣 .Λ) code.function) (next.spec 𝓤 H A mem run)
   meets 𝓣 known =
-      walk-meets 𝓤 H A next.ended stayed W (goes-none 𝓤 H A W 1 (λ κs. Reader (κs .0)) yes (λ κs x f. refl), tt) (next.clauses 𝓤 H A mem run) (WpFn 𝓤 H (𝓣 .C) (𝓣 .Λ) code.function) (WpFn-mono 𝓤 H (W .laws) 𝓣 code.function)
-      (walked 𝓤 H A next.ended stayed (next.clauses 𝓤 H A mem run) (WpFn 𝓤 H (𝓣 .C) (𝓣 .Λ) code.function) (λ κs. (LL.vals (fields (κs .0)) (laws (κs .0)), tt)) (λ κs. (LL.tells (fields (κs .0)) (laws (κs .0)), tt))
-      (λ κs qs bounds a g are. via 𝓤 _ (fst∗ 𝓤 _ (emp 𝓤)) (walk (κs .0) (qs .0) (a .0) (𝓣 .C) (𝓣 .Λ) (fmOf 𝓤 H (W .laws) 𝓣) known (LL.lawful (fields (κs .0)) (laws (κs .0)) 𝓤 H A W .typed (a .0) _ (are .0) .0))))
+      walk-meets 𝓤 H A next.ended stayed W (goes-none 𝓤 H A W 1 (λ κs. Reader (κs .0)) yes (λ κs x f. refl), tt) (next.clauses 𝓤 H A mem run)
+      (WpFn 𝓤 H (𝓣 .C) (𝓣 .Λ) code.function) (WpFn-mono 𝓤 H (W .laws) 𝓣 code.function)
+      (walked 𝓤 H A next.ended stayed (next.clauses 𝓤 H A mem run) (WpFn 𝓤 H (𝓣 .C) (𝓣 .Λ) code.function)
+      (λ κs. (LL.vals (fields (κs .0)) (laws (κs .0)), tt)) (λ κs. (LL.tells (fields (κs .0)) (laws (κs .0)), tt))
+      (λ κs qs bounds a g are. via 𝓤 _ (fst∗ 𝓤 _ (emp 𝓤)) (walk (κs .0) (qs .0) (a .0) (𝓣 .C) (𝓣 .Λ) (fmOf 𝓤 H (W .laws) 𝓣) known
+      (LL.lawful (fields (κs .0)) (laws (κs .0)) 𝓤 H A W .typed (a .0) _ (are .0) .0))))
 
 pub next-spec : {M : Type 1} → stated.statement M
 unfolding code.routine tablesOf

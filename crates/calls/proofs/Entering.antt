@@ -1,0 +1,131 @@
+-- What the doors answer, by the tests on the way: P and C are the lent plan and counts.
+use Prim.Native.Nat.{ℕ, _≤_}
+use mathlib.Core.Path.{_≡_, refl, sym, _∙_, ap, subst}
+use mathlib.Core.Bool.{Bool, true, false, cond, not, _&&_, _||_, and-false}
+use mathlib.Core.Logic.{⊎-elim}
+use mathlib.Core.List.{List, [], _++_}
+use native.Mathlib.Omega.{arith}
+use borrow.Author.Tests.{ltb-true, ltb-false, leb-true, lt-leb, le-leb, not-true, not-false}
+use lib.Dec.{ltb, leb}
+use lib.ListN.{length, take, drop}
+use lib.Seq.{length-take-le}
+use Rattle.finite.specs.Below.{allBelow}
+use Rattle.finite.proofs.Below.{all-at}
+use Rattle.finite.proofs.Tests.{or-cases, or-parts, and-true}
+use Rattle.plan.specs.Sizes.{countWords}
+use Rattle.plan.specs.Layout.{planWords, passesOf}
+use Rattle.plan.specs.Form.{inForm}
+use Rattle.graph.specs.Table.{tableOf, Graph}
+use Rattle.graph.specs.Answers.{refusalOf, longPlan, formedPlan, planBody}
+use Rattle.steps.specs.State.{stateOf}
+use Rattle.steps.specs.Answers.{countOk, formedCounts}
+use Rattle.calls.specs.declared.Entry.{Entry}
+use Rattle.calls.specs.Doors.{ByPlan, ByState}
+
+-- a refusal is no other where more is tested, once there is one
+same-refused : (l f g : Bool) → (refusalOf l f true ≡ 0 → ⊥) → refusalOf l f true ≡ refusalOf l (f && g) true
+same-refused true true g n = absurd (n refl)
+same-refused true false g n = refl
+same-refused false f g n = refl
+
+none-refused : (l f : Bool) → refusalOf l f true ≡ 0 → (l ≡ true) × (f ≡ true)
+none-refused true true e = (refl, refl)
+none-refused true false e = absurd (let z : _≡_ {A = ℕ} 12 0 = e in omega arith)
+none-refused false f e = absurd (let z : _≡_ {A = ℕ} 11 0 = e in omega arith)
+
+module _ (P table : List ℕ) (long : Bool) where
+  refused-by : (n : ℕ) (r : Entry) (table′ : List ℕ) → (n ≡ 0 → ⊥) → r ≡ record { refusal = n; items = 0 } → n ≡ refusalOf (longPlan P && long) (formedPlan P) true → table′ ≡ table →
+      ByPlan P long table r table′
+  refused-by n r table′ z e h t =
+      record {
+        refusal = ap (λ (x : Entry). x .refusal) e ∙ h;
+        clear = λ k. absurd (z (sym (ap (λ (x : Entry). x .refusal) e) ∙ k));
+        listed = λ k. absurd (z (sym (ap (λ (x : Entry). x .refusal) e) ∙ k));
+        refused = λ k. (ap (λ (x : Entry). x .items) e, t);
+      }
+
+  -- a slice is too short
+  pub plan-short : (r : Entry) → (ltb (length P) planWords || not long) ≡ true → r ≡ record { refusal = 11; items = 0 } → ByPlan P long table r table
+  plan-short r h e =
+      refused-by 11 r table (λ z. omega arith) e
+      (⊎-elim
+      (λ k. rw (lt-leb planWords (length P) (ltb-true (length P) planWords k)))
+      (λ k. rw (not-true long k, and-false (longPlan P)))
+      (or-cases (ltb (length P) planWords) (not long) h))
+      refl
+
+  module _ (h : (ltb (length P) planWords || not long) ≡ false) where
+    pub plan-room : planWords ≤ length P
+    plan-room = ltb-false (length P) planWords (or-parts (ltb (length P) planWords) (not long) h .0)
+
+    pub cut-long : length (take planWords P) ≡ planWords
+    cut-long = length-take-le planWords P plan-room
+
+    all-long : (longPlan P && long) ≡ true
+    all-long = rw (le-leb planWords (length P) plan-room, not-false long (or-parts (ltb (length P) planWords) (not long) h .1))
+
+    module _ (f : Bool) (tested : f ≡ inForm (take planWords P)) (n : ℕ) (table′ : List ℕ)
+        (made : table′ ≡ cond f (tableOf (planBody P) ++ drop n table) table) where
+      pub plan-unformed : (r : Entry) → not f ≡ true → r ≡ record { refusal = 12; items = 0 } → ByPlan P long table r table′
+      plan-unformed r u e = refused-by 12 r table′ (λ z. omega arith) e (rw (all-long, ← tested, not-true f u)) (made ∙ rw (not-true f u))
+
+      pub plan-clear : not f ≡ false → (f ≡ true → Graph (take planWords P) table′ n) → ByPlan P long table (record { refusal = 0; items = n }) table′
+      plan-clear u g =
+          record {
+            refusal = rw (all-long, ← tested, not-false f u);
+            clear = λ k. g (not-false f u);
+            listed = λ k. made ∙ rw (not-false f u);
+            refused = λ k. absurd (k refl);
+          }
+
+-- the door by the plan was passed, or not
+module _ (P C table : List ℕ) (long : Bool) (r : Entry) (table′ : List ℕ) (B : ByPlan P (leb countWords (length C) && long) table r table′) where
+  abbrev all-slices : Bool
+  all-slices = longPlan P && (leb countWords (length C) && long)
+
+  pub state-refused : (r .refusal ≡ 0 → ⊥) → ByState P C long r table′
+  state-refused n =
+      record {
+        refusal = B .refusal ∙ same-refused all-slices (formedPlan P) (formedCounts P C []) (λ z. n (B .refusal ∙ z));
+        clear = λ z. absurd (n z);
+      }
+
+  module _ (z : r .refusal ≡ 0) where
+    passed : (all-slices ≡ true) × (formedPlan P ≡ true)
+    passed = none-refused all-slices (formedPlan P) (sym (B .refusal) ∙ z)
+
+    slices : (longPlan P ≡ true) × (leb countWords (length C) ≡ true)
+    slices = let p = and-true (longPlan P) (leb countWords (length C) && long) (passed .0) in (p .0, and-true (leb countWords (length C)) long (p .1) .0)
+
+    pub lent-plan : planWords ≤ length P
+    lent-plan = leb-true planWords (length P) (slices .0)
+
+    pub lent-counts : countWords ≤ length C
+    lent-counts = leb-true countWords (length C) (slices .1)
+
+    pub lent-graph : Graph (take planWords P) table′ (r .items)
+    lent-graph = B .clear z
+
+    module _ (passes : ℕ) (p : passes ≡ passesOf (take planWords P)) (ok : Bool) (o : ok ≡ allBelow (r .items) (countOk passes (stateOf C []))) where
+      counted : ok ≡ formedCounts P C []
+      counted = o ∙ rw (lent-graph .count, p)
+
+      pub state-unformed : (s : Entry) → not ok ≡ true → s ≡ record { refusal = 12; items = 0 } → ByState P C long s table′
+      state-unformed s u e =
+          record {
+            refusal = ap (λ (x : Entry). x .refusal) e ∙ rw (passed .0, passed .1, ← counted, not-true ok u);
+            clear = λ k. absurd (let y : _≡_ {A = ℕ} 12 0 = sym (ap (λ (x : Entry). x .refusal) e) ∙ k in omega arith);
+          }
+
+      pub state-clear : not ok ≡ false → ByState P C long r table′
+      state-clear u =
+          record {
+            refusal = z ∙ rw (passed .0, passed .1, ← counted, not-false ok u);
+            clear = λ k.
+                record {
+                  graph = lent-graph;
+                  room = lent-counts;
+                  counts-ok = λ a l. all-at (countOk (passesOf (take planWords P)) (stateOf C [])) (r .items) a
+                      (subst (λ (x : ℕ). allBelow (r .items) (countOk x (stateOf C [])) ≡ true) p (sym o ∙ not-false ok u)) l;
+                };
+          }

@@ -1,0 +1,36 @@
+use mathlib.Core.Path.{sym}
+use borrow.Author.Needs.{needs}
+use denote.Ref.{now}
+use Rattle.calls.proofs.Entering.{plan-short, cut-long, plan-unformed, plan-clear}
+use Rattle.calls.proofs.doors.enter_plan.Statement.{statement}
+use Rattle.calls.proofs.doors.enter_plan.Tie as tie
+
+returns : tie.Need-returns
+returns c = let s = c .before .before .before .before in plan-short (now (s .args .plan)) (now (s .args .table)) (s .args .long) _ (c .before .if1 .taken) (c .no-entry .ensures)
+
+slice-aggregate-make-table : tie.Need-slice-aggregate-make-table
+slice-aggregate-make-table c = let s = c .before .before .before .before in sym (cut-long (now (s .args .plan)) (now (s .args .table)) (s .args .long) (c .before .if1 .left))
+
+make-table-requires : tie.Need-make-table-requires
+make-table-requires c κs = let s = c .before .before .before .before .before in (cut-long (now (s .args .plan)) (now (s .args .table)) (s .args .long) (c .before .before .if1 .left), search needs)
+
+returns-2 : tie.Need-returns-2
+returns-2 c =
+    let made = c .before .before .before .before .before in
+    let a = made .before .before .before .before .before .before .args in
+    let m = made .make-table .ensures in
+    plan-unformed (now (a .plan)) (now (a .table)) (a .long) (made .before .before .before .if1 .left) _ (m .0) (made .make-table .result .count) _ (m .2)
+    _ (c .before .if2 .taken) (c .no-entry2 .ensures)
+
+returns-3 : tie.Need-returns-3
+returns-3 c =
+    let made = c .before .before .before .before in
+    let a = made .before .before .before .before .before .before .args in
+    let m = made .make-table .ensures in
+    plan-clear (now (a .plan)) (now (a .table)) (a .long) (made .before .before .before .if1 .left) _ (m .0) _ _ (m .2) (c .if2 .left) (m .1)
+
+pub enter-plan-spec : {M : Type 1} → statement M
+enter-plan-spec =
+    tie.close
+    (tie.spec (λ c κs. search needs) returns slice-aggregate-make-table make-table-requires (λ c κs. search needs) (λ c. search needs) returns-2
+    (λ c. search needs) returns-3)

@@ -1,0 +1,58 @@
+use mathlib.Core.Path.{sym}
+use native.Mathlib.Omega.{arith}
+use borrow.Author.Needs.{needs}
+use denote.Ref.{now}
+use lib.Seq.{length-take-le}
+use Rattle.calls.proofs.Behind.{passes-most}
+use Rattle.calls.proofs.Entering.{state-refused, lent-plan, lent-counts, lent-graph, state-unformed, state-clear}
+use Rattle.calls.proofs.doors.enter_state.Statement.{statement}
+use Rattle.calls.proofs.doors.enter_state.Tie as tie
+
+returns : tie.Need-returns
+returns c =
+    let entered = c .before .before .before .before in
+    let a = entered .before .before .before .before .before .args in
+    state-refused (now (a .plan)) (now (a .counts)) (now (a .table)) (a .long) _ _ (entered .enter-plan .ensures) (c .if1 .taken)
+
+slice-aggregate-pass-count : tie.Need-slice-aggregate-pass-count
+slice-aggregate-pass-count c =
+    let entered = c .before .before .before .before .before in
+    let a = entered .before .before .before .before .before .args in
+    sym (length-take-le _ (now (a .plan))
+    (lent-plan (now (a .plan)) (now (a .counts)) (now (a .table)) (a .long) _ _ (entered .enter-plan .ensures) (c .before .if1 .left)))
+
+pass-count-requires : tie.Need-pass-count-requires
+pass-count-requires c κs =
+    let entered = c .before .before .before .before .before in
+    let a = entered .before .before .before .before .before .args in
+    let G = lent-graph (now (a .plan)) (now (a .counts)) (now (a .table)) (a .long) _ _ (entered .enter-plan .ensures) (c .before .if1 .left) in
+    (omega (arith, G .long), passes-most _ _ _ G)
+
+are-formed-requires : tie.Need-are-formed-requires
+are-formed-requires c κs =
+    let entered = c .before .before .before .before .before .before in
+    let a = entered .before .before .before .before .before .args in
+    let e = entered .enter-plan .ensures in
+    let k = c .before .before .if1 .left in
+    let G = lent-graph (now (a .plan)) (now (a .counts)) (now (a .table)) (a .long) _ _ e k in
+    (lent-counts (now (a .plan)) (now (a .counts)) (now (a .table)) (a .long) _ _ e k, c .pass-count .ensures .1, G .most)
+
+returns-2 : tie.Need-returns-2
+returns-2 c =
+    let entered = c .before .before .before .before .before .before .before .before .before in
+    let a = entered .before .before .before .before .before .args in
+    state-unformed (now (a .plan)) (now (a .counts)) (now (a .table)) (a .long) _ _ (entered .enter-plan .ensures) (c .before .before .before .before .before .if1 .left)
+    _ (c .before .before .before .pass-count .ensures .0) _ (c .before .before .are-formed .ensures) _ (c .before .if2 .taken) (c .no-entry .ensures)
+
+returns-3 : tie.Need-returns-3
+returns-3 c =
+    let entered = c .before .before .before .before .before .before .before .before in
+    let a = entered .before .before .before .before .before .args in
+    state-clear (now (a .plan)) (now (a .counts)) (now (a .table)) (a .long) _ _ (entered .enter-plan .ensures) (c .before .before .before .before .if1 .left)
+    _ (c .before .before .pass-count .ensures .0) _ (c .before .are-formed .ensures) (c .if2 .left)
+
+pub enter-state-spec : {M : Type 1} → statement M
+enter-state-spec =
+    tie.close
+    (tie.spec (λ c κs. search needs) (λ c. search needs) returns slice-aggregate-pass-count pass-count-requires are-formed-requires
+    (λ c κs. search needs) (λ c. search needs) returns-2 (λ c. search needs) returns-3)

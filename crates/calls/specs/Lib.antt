@@ -1,0 +1,3 @@
+pub mod Told
+pub mod Doors
+pub mod Drawn

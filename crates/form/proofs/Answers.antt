@@ -1,0 +1,39 @@
+-- The answers of the in-form test, by what is found on the way.
+use mathlib.Core.Path.{refl, sym, _≡_, _∙_}
+use borrow.Author.Tests.{le-leb, not-true, not-false}
+use lib.Dec.{leb}
+use mathlib.Core.Bool.{Bool, true, false, not}
+use mathlib.Core.List.{List}
+use native.Mathlib.Omega.{arith}
+use Prim.Native.Nat.{ℕ, _≤_}
+use Rattle.finite.proofs.Tests.{not-both}
+use Rattle.body.specs.Transfers.{transferCount}
+use Rattle.plan.specs.Limits.{maxTransfers}
+use Rattle.form.specs.Changes.{changeCount}
+use Rattle.plan.specs.Form.{inForm, wordsOk}
+use Rattle.plan.specs.Layout.{bodyOf}
+use Rattle.form.proofs.Bound.{transfers-bounded}
+use Rattle.plan.proofs.Facts.{formed}
+use Rattle.transfers.proofs.Tally.{count-found, ones-flags}
+
+module _ (w : List ℕ) (ok : Bool) (e : ok ≡ wordsOk w) where
+  pub fine : not ok ≡ false → wordsOk w ≡ true
+  fine h = sym e ∙ not-false ok h
+
+  pub form-not : not ok ≡ true → false ≡ inForm w
+  unfolding inForm
+  form-not h = rw (sym e ∙ not-true ok h)
+
+  pub form-few : (changes : ℕ) → not ok ≡ false → (ok ≡ true → changes ≡ changeCount w) → changes ≤ maxTransfers → true ≡ inForm w
+  unfolding inForm
+  form-few changes h c l =
+      let f = formed w (fine h) in
+      rw (fine h, le-leb (transferCount (bodyOf w)) maxTransfers (omega (arith, c (not-false ok h), transfers-bounded w f, ones-flags w f, count-found w f)))
+
+  pub form-counted : (n : ℕ) → not ok ≡ false → n ≡ transferCount (bodyOf w) → leb n maxTransfers ≡ inForm w
+  unfolding inForm
+  form-counted n h k = rw (fine h, k)
+
+-- no masks are asked for
+pub masks-not : (m l : List ℕ) → false ≡ true → m ≡ l
+masks-not m l e = absurd (not-both e refl)

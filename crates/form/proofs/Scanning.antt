@@ -1,0 +1,126 @@
+-- Laws of the scan of the tasks: -none, -more, -not and -done are a loop's, before its first turn,
+-- over a turn, at a task that is not in form, and after its last.
+use Prim.Native.Nat.{ℕ, suc, _+_, _*_, _≤_, _<_}
+use mathlib.Core.Path.{_≡_, sym, _∙_}
+use mathlib.Core.Bool.{Bool, true, false, not, _&&_, and-false}
+use mathlib.Core.List.{List}
+use native.Mathlib.Numerals.{add-one}
+use native.Mathlib.Omega.{arith}
+use borrow.Author.Tests.{ltb-true, leb-true, not-true, not-false}
+use lib.Dec.{ltb, leb}
+use Rattle.finite.specs.Below.{allBelow, sumBelow}
+use Rattle.finite.proofs.Tests.{not-both, and-true}
+use Rattle.finite.proofs.Below.{below-suc, all-none, all-more, all-done, all-fails, count-le, sum-none, sum-more, sum-done}
+use Rattle.plan.specs.Limits.{maxRanks, maxAccesses, maxKernel}
+use Rattle.plan.specs.Layout.{ranksOf, tasksOf, rankOf, kernelOf, accessesOf}
+use Rattle.plan.specs.Form.{restOk}
+use Rattle.form.specs.Changes.{changed, changeCount}
+use Rattle.form.specs.Scan.{kept, freshAllOk, changesOf, headOk, readsOk, scanOk, tasksScanOk, Open, Ready, Scanned}
+
+scanned-not : (test : Bool) (count : ℕ) (f : ℕ → ℕ) (ok : Bool) (n : ℕ) (l : List ℕ) → ok ≡ false → test ≡ false → Scanned test count f ok n l
+scanned-not test count f ok n l p q = record { tested = p ∙ sym q; counts = λ t. absurd (not-both t p); keeps = λ t. absurd (not-both t p) }
+
+module _ (w : List ℕ) where
+  pub record Head (i : ℕ) : Type 0 where
+    pub rank : rankOf w i < ranksOf w
+    pub kernel : kernelOf w i ≤ maxKernel
+    pub few : accessesOf w i ≤ maxAccesses
+
+  pub head-of : (i : ℕ) → headOk w i ≡ true → Head i
+  head-of i h =
+      let a = and-true (ltb (rankOf w i) (ranksOf w)) (leb (kernelOf w i) maxKernel && leb (accessesOf w i) maxAccesses) h in
+      let b = and-true (leb (kernelOf w i) maxKernel) (leb (accessesOf w i) maxAccesses) (a .1) in
+      record { rank = ltb-true _ _ (a .0); kernel = leb-true _ _ (b .0); few = leb-true _ _ (b .1) }
+
+  -- one task: a test answered t
+
+  pub ready-of : (i : ℕ) (l : List ℕ) (t : Bool) → Open w i l → i < tasksOf w → t ≡ headOk w i → not t ≡ false → Ready w i l
+  ready-of i l t o b e n =
+      let h = head-of i (sym e ∙ not-false t n) in
+      record { size = o .size; task = omega (arith, o .tasks); few = h .few; rank = omega (arith, h .rank, o .most); ranks = o .ranks; keeps = o .keeps }
+
+  pub few-of : (i : ℕ) (t : Bool) → t ≡ headOk w i → not t ≡ false → accessesOf w i ≤ 8
+  few-of i t e n = head-of i (sym e ∙ not-false t n) .few
+
+  -- what a scan of task i answers
+  abbrev pub Task : ℕ → Bool → ℕ → List ℕ → Type 0
+  Task i ok n l = Scanned (scanOk w i) (changesOf w i) (kept w (suc i)) ok n l
+
+  module _ (i : ℕ) (ok : Bool) (n : ℕ) (l : List ℕ) (f : ok ≡ false) (t : Bool) (z : not t ≡ true) where
+    pub task-head : t ≡ headOk w i → Task i ok n l
+    unfolding scanOk
+    task-head e = scanned-not _ _ _ ok n l f (rw (← e, not-true t z))
+
+    pub task-fresh : t ≡ freshAllOk w i → Task i ok n l
+    unfolding scanOk
+    task-fresh e = scanned-not _ _ _ ok n l f (rw (← e, not-true t z) (and-false (headOk w i)))
+
+    pub task-rest : t ≡ restOk w i → Task i ok n l
+    unfolding scanOk
+    task-rest e = scanned-not _ _ _ ok n l f (rw (← e, not-true t z, and-false (freshAllOk w i)) (and-false (headOk w i)))
+
+  -- the last test decides
+  pub task-reads : (i : ℕ) (h f r ok : Bool) (n : ℕ) (l : List ℕ) → h ≡ headOk w i → not h ≡ false → Scanned (freshAllOk w i) (changesOf w i) (kept w (suc i)) f n l → not f ≡ false
+      → r ≡ restOk w i → not r ≡ false → ok ≡ readsOk w i → Task i ok n l
+  unfolding scanOk
+  task-reads i h f r ok n l a a′ b b′ c c′ d =
+      record {
+        tested = d ∙ sym (rw (sym a ∙ not-false h a′, sym (b .tested) ∙ not-false f b′, sym c ∙ not-false r c′));
+        counts = λ _. b .counts (not-false f b′);
+        keeps = λ _. b .keeps (not-false f b′);
+      }
+
+  -- all tasks
+
+  pub record Scanning (i n : ℕ) (l : List ℕ) : Type 0 where
+    pub tested : true ≡ allBelow i (scanOk w)
+    pub counts : n ≡ sumBelow i (changesOf w)
+    pub few : n ≤ 8 * i
+    pub state : Open w i l
+
+  pub scanning-none : (l : List ℕ) → Open w 0 l → Scanning 0 0 l
+  scanning-none l o = record { tested = all-none (scanOk w); counts = sum-none (changesOf w); few = omega arith; state = o }
+
+  scan-head : (i : ℕ) → scanOk w i ≡ true → Head i
+  unfolding scanOk
+  scan-head i h = head-of i (and-true (headOk w i) _ h .0)
+
+  pub task-few : (i c : ℕ) (ok : Bool) (m : List ℕ) → Task i ok c m → not ok ≡ false → c ≤ 8
+  task-few i c ok m t z =
+      let s = not-false ok z in
+      omega (arith, t .counts s, count-le (changed w i) (accessesOf w i), scan-head i (sym (t .tested) ∙ s) .few)
+
+  pub scanning-more : (i n c : ℕ) (ok : Bool) (l m : List ℕ) → Scanning i n l → Task i ok c m → not ok ≡ false → Scanning (i + 1) (n + c) m
+  scanning-more i n c ok l m k t z =
+      let s = not-false ok z in
+      let e = sym (t .tested) ∙ s in
+      let o = k .state in
+      record {
+        tested = all-more (scanOk w) i true true (k .tested) (sym e);
+        counts = sum-more (changesOf w) i n c (k .counts) (t .counts s);
+        few = omega (arith, task-few i c ok m t z, k .few);
+        state = rw add-one (record {
+          size = o .size;
+          tasks = o .tasks;
+          most = o .most;
+          ranks = below-suc (λ j. rankOf w j < maxRanks) i (o .ranks) (omega (arith, scan-head i e .rank, o .most));
+          keeps = t .keeps s;
+        });
+      }
+
+  -- what a scan of all tasks answers
+  abbrev pub Tasks : Bool → ℕ → List ℕ → Type 0
+  Tasks ok n l = Scanned (tasksScanOk w) (changeCount w) (kept w (tasksOf w)) ok n l
+
+  pub scanning-not : (i c n : ℕ) (t ok : Bool) (m l : List ℕ) → Task i t c m → not t ≡ true → i < tasksOf w → ok ≡ false → Tasks ok n l
+  scanning-not i c n t ok m l k z b f = scanned-not _ _ _ ok n l f (all-fails (scanOk w) (tasksOf w) i b (sym (k .tested) ∙ not-true t z))
+
+  pub scanning-done : (i n : ℕ) (l : List ℕ) → Scanning i n l → tasksOf w ≤ i → i ≤ tasksOf w → Tasks true n l
+  unfolding changeCount
+  scanning-done i n l k p q =
+      let e : i ≡ tasksOf w = omega arith in
+      record {
+        tested = all-done (scanOk w) (tasksOf w) i true (k .tested) p q;
+        counts = λ _. sum-done (changesOf w) (tasksOf w) i n (k .counts) p q;
+        keeps = λ _. rw e at (k .state .keeps);
+      }

@@ -1,0 +1,147 @@
+// The item table: for each item its rank, kind, and task or region in one number
+// (graph/specs/Table.antt), put there in the order of the items.
+ghost use Prim.Native.Nat.{_+_, _≤_, _<_};
+ghost use mathlib.Core.Path.{_≡_};
+ghost use mathlib.Core.Bool.{true, cond};
+ghost use mathlib.Core.List.{_∷_, [], _++_};
+ghost use lib.ListN.{length, drop};
+ghost use Rattle.finite.specs.Lists.{collect};
+ghost use Rattle.plan.specs.Limits.{maxRanks, maxRegions, maxTasks, maxAccesses};
+ghost use Rattle.plan.specs.Sizes.{maxItems};
+ghost use Rattle.plan.specs.Layout.{planWords, rankOf, tasksOf, bodyOf};
+ghost use Rattle.plan.specs.Form.{inForm};
+ghost use Rattle.graph.specs.Added.{Added};
+ghost use Rattle.graph.specs.Table.{tableOf, Graph};
+ghost use Rattle.items.specs.Codes.{pairCodes, maskCodes, accessCodes, taskCodes, allCodes, Coded};
+use plan::code::RECEIVE;
+use plan::code::SEND;
+use plan::code::TASK;
+use plan::code::item_code;
+use plan::layout::access_at;
+use plan::layout::access_region;
+use plan::layout::rank_of;
+use plan::layout::tasks_of;
+use plan::limits::MAX_ACCESSES;
+use plan::numbers::as_word;
+use plan::numbers::narrow_16;
+use plan::numbers::wide_16;
+use transfers::PLAN_MASKS;
+
+// Puts a number behind the first n, and answers how many stand there.
+fn put_item(items: &mut [u16], n: usize, code: u64) -> usize
+    requires { ⌜ (length (now items) ≡ maxItems) × (n < maxItems) × (code < 65536) ⌝ }
+    ensures { λ r. ⌜ Added (now (items .entry)) (now (items .exit)) n r (code ∷ []) ⌝ }
+{
+    items[n] = narrow_16(code);
+    n + 1
+}
+
+// A send on a rank and its receive on rank q.
+fn put_pair(items: &mut [u16], n: usize, rank: u64, region: u64, q: u64) -> usize
+    requires { ⌜ (length (now items) ≡ maxItems) × (n + 2 ≤ maxItems) × (rank < maxRanks) × (region < maxRegions) × (q < maxRanks) ⌝ }
+    ensures { λ r. ⌜ Added (now (items .entry)) (now (items .exit)) n r (pairCodes rank region q) ⌝ }
+{
+    let m = put_item(items, n, item_code(rank, SEND, region));
+    put_item(items, m, item_code(q, RECEIVE, region))
+}
+
+// The pairs of the ranks that a mask has, by rank rising.
+fn put_mask(items: &mut [u16], n: usize, mask: u64, rank: u64, region: u64) -> usize
+    requires { ⌜
+        (length (now items) ≡ maxItems) × (n + length (maskCodes mask rank region) ≤ maxItems) × (mask < 65536) × (rank < maxRanks) × (region < maxRegions)
+        ⌝ }
+    ensures { λ r. ⌜ Added (now (items .entry)) (now (items .exit)) n r (maskCodes mask rank region) ⌝ }
+{
+    let mut at = n;
+    let mut rest = mask;
+    let mut q: u64 = 0;
+    while rest != 0 {
+        if rest % 2 == 1 {
+            at = put_pair(items, at, rank, region, q);
+        }
+        rest = rest / 2;
+        q += 1;
+    }
+    at
+}
+
+// The transfers of task i, by access.
+fn put_accesses(
+    items: &mut [u16],
+    n: usize,
+    plan: &[u64],
+    masks: &[u16; PLAN_MASKS],
+    i: usize,
+) -> usize
+    requires { ⌜
+        (length (now items) ≡ maxItems) × (length (now plan) ≡ planWords) × (i < maxTasks) × (rankOf (now plan) i < maxRanks)
+        × (n + length (collect maxAccesses (accessCodes (now plan) (now masks) i)) ≤ maxItems)
+        ⌝ }
+    ensures { λ r. ⌜ Added (now (items .entry)) (now (items .exit)) n r (collect maxAccesses (accessCodes (now (plan .entry)) (now (masks .entry)) i)) ⌝ }
+{
+    let rank = rank_of(plan, i);
+    let mut at = n;
+    let mut a: usize = 0;
+    while a < MAX_ACCESSES {
+        let mask = wide_16(masks[MAX_ACCESSES * i + a]);
+        let region = access_region(access_at(plan, i, a));
+        at = put_mask(items, at, mask, rank, as_word(region));
+        a += 1;
+    }
+    at
+}
+
+// Task i, and its transfers.
+fn put_task(items: &mut [u16], n: usize, plan: &[u64], masks: &[u16; PLAN_MASKS], i: usize) -> usize
+    requires { ⌜
+        (length (now items) ≡ maxItems) × (length (now plan) ≡ planWords) × (i < maxTasks) × (rankOf (now plan) i < maxRanks)
+        × (n + length (taskCodes (now plan) (now masks) i) ≤ maxItems)
+        ⌝ }
+    ensures { λ r. ⌜ Added (now (items .entry)) (now (items .exit)) n r (taskCodes (now (plan .entry)) (now (masks .entry)) i) ⌝ }
+{
+    let at = put_item(items, n, item_code(rank_of(plan, i), TASK, as_word(i)));
+    put_accesses(items, at, plan, masks, i)
+}
+
+// The items of all tasks; answers their number.
+fn put_items(items: &mut [u16], plan: &[u64], masks: &[u16; PLAN_MASKS]) -> usize
+    requires { ⌜ (length (now items) ≡ maxItems) × Coded (now plan) (now masks) ⌝ }
+    ensures { λ r. ⌜ Added (now (items .entry)) (now (items .exit)) 0 r (allCodes (now (plan .entry)) (now (masks .entry)) (tasksOf (now (plan .entry)))) ⌝ }
+{
+    let tasks = tasks_of(plan);
+    let mut at: usize = 0;
+    let mut i: usize = 0;
+    while i < tasks {
+        at = put_task(items, at, plan, masks, i);
+        i += 1;
+    }
+    at
+}
+
+// A table of a plan's items, and their number; not made where the plan is not in form.
+pub struct Made {
+    pub formed: bool,
+    pub count: usize,
+}
+
+// Makes the table of the items of a plan, where it is in form.
+pub fn make_table(plan: &[u64], items: &mut [u16]) -> Made
+    requires { ⌜ (length (now plan) ≡ planWords) × (length (now items) ≡ maxItems) ⌝ }
+    ensures { λ r. ⌜
+        (r .formed ≡ inForm (now (plan .entry)))
+        × (r .formed ≡ true → Graph (now (plan .entry)) (now (items .exit)) (r .count))
+        × (now (items .exit) ≡ cond (r .formed) (tableOf (bodyOf (now (plan .entry))) ++ drop (r .count) (now (items .entry))) (now (items .entry)))
+        ⌝ }
+{
+    let mut masks = [0u16; PLAN_MASKS];
+    if !form::find_masks(plan, &mut masks) {
+        return Made {
+            formed: false,
+            count: 0,
+        };
+    }
+    Made {
+        formed: true,
+        count: put_items(items, plan, &masks),
+    }
+}

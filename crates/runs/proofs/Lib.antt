@@ -1,0 +1,4 @@
+pub mod Chaining
+pub mod Turning
+pub mod Drawing
+pub mod Opened

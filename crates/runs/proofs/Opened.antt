@@ -1,0 +1,45 @@
+-- A plan that is lent with the table of its items, opened and run.
+use Prim.Native.Nat.{ℕ, _≤_}
+use mathlib.Core.Path.{_≡_, sym, _∙_, ap, subst}
+use mathlib.Core.List.{List}
+use native.Mathlib.Omega.{arith}
+use borrow.Author.Tests.{lt-ltb}
+use lib.Dec.{ltb}
+use lib.ListN.{length, getD}
+use Rattle.finite.specs.Update.{replaced}
+use Rattle.finite.proofs.Replaced.{replaced-at}
+use Rattle.plan.specs.Sizes.{countWords, valueWords}
+use Rattle.graph.specs.Table.{Graph}
+use Rattle.steps.specs.Answers.{openOf}
+use Rattle.steps.specs.Calls.{Lent, lent, lentBy}
+use Rattle.steps.specs.Turns.{Idle, Going}
+use Rattle.steps.proofs.Accepting.{long-slices, open-opened}
+use Rattle.steps.proofs.Running.{opened-idle}
+use Rattle.values.proofs.Plans.{plan-long, plan-formed}
+use Rattle.calls.specs.Told.{toldOpening}
+use Rattle.calls.proofs.Behind.{graph-formed}
+
+-- the table, copied
+pub graph-copied : (w table items items′ : List ℕ) (n : ℕ) → Graph w table n → n ≤ length items → items′ ≡ replaced (λ i. ltb i n) (λ i. getD table i 0) items → Graph w items′ n
+graph-copied w table items items′ n G l e =
+    record {
+      long = G .long;
+      formed = G .formed;
+      count = G .count;
+      most = G .most;
+      each = λ a h.
+          ap (λ (x : List ℕ). getD x a 0) e
+          ∙ (replaced-at (λ i. ltb i n) (λ i. getD table i 0) items a (omega (arith, l)) ∙ (rw (lt-ltb a n h) (G .each a h)));
+    }
+
+module _ (w table : List ℕ) (n : ℕ) (G : Graph w table n) (C W C1 W1 : List ℕ) (c : countWords ≤ length C) (v : valueWords ≤ length W)
+    (o : toldOpening 0 C1 W1 ≡ openOf w C W) where
+  -- an opened state is idle
+  pub idle : Idle w (lent C1 W1)
+  idle =
+      let F = graph-formed w table n G in
+      let l = plan-long w F in
+      subst (Idle w) (ap lentBy (sym (open-opened w C W (long-slices w C W .1 (l, c, v)) (plan-formed w F)) ∙ sym o)) (opened-idle w l (plan-formed w F) C W c v)
+
+  pub from-opening : (s : Lent) (steps : ℕ) → Going w (lent C1 W1) s steps → Going w (lentBy (openOf w C W)) s steps
+  from-opening s steps g = subst (λ (x : Lent). Going w x s steps) (ap lentBy o) g

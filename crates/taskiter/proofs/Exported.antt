@@ -1,0 +1,160 @@
+-- The answers of the exported functions, from what their door and the function behind it answer. P
+-- is the lent plan, C and W the counts and values.
+use Prim.Native.Nat.{ℕ, _*_, _≤_, _<_}
+use mathlib.Core.Path.{_≡_, refl, sym, _∙_, ap}
+use mathlib.Core.Bool.{Bool, true, false, cond, _&&_}
+use mathlib.Core.List.{List, [], _++_, append-assoc, flatMap}
+use native.Mathlib.Decide.{decLt}
+use native.Mathlib.Omega.{arith}
+use borrow.Author.Tests.{ne-eqb, le-leb, lt-leb, leb-true}
+use lib.Dec.{eqb, ltb, leb}
+use lib.ListN.{length, take, drop, take-append-drop}
+use lib.Seq.{take-all, length-take-le, drop-append-le}
+use Rattle.finite.proofs.Tests.{and-true}
+use Rattle.body.specs.Items.{itemCount}
+use Rattle.plan.specs.Sizes.{maxItems, edgeWords, countWords, valueWords}
+use Rattle.plan.specs.Layout.{planWords}
+use Rattle.graph.specs.declared.Number.{Number}
+use Rattle.graph.specs.Table.{tableOf, Graph}
+use Rattle.graph.specs.Answers.{refusalOf, longPlan, formedPlan, planBody, isItem, three, ItemsAnswer, EdgesAnswer}
+use Rattle.steps.specs.Answers.{Left, formedCounts, longSlices, callRefusal, refused, openOf, startOf, finishOf, resultOf}
+use Rattle.steps.specs.Calls.{lent, start, finish, result}
+use Rattle.steps.proofs.Accepting.{refusal-none}
+use Rattle.steps.proofs.Running.{cut-again, call-cut}
+use Rattle.calls.specs.declared.Entry.{Entry}
+use Rattle.calls.specs.Doors.{ByPlan, ByState}
+use Rattle.calls.specs.Drawn.{Drawn}
+
+-- a plan that is cut to its size is long enough
+pub cut-room : (P : List ℕ) → length (take planWords P) ≡ planWords → planWords ≤ length P
+cut-room P e =
+    elim (decLt (length P) planWords) [
+      | yes l ↦ let h : length P ≤ planWords = omega arith in absurd (omega (arith, e, ap length (take-all planWords P h)))
+      | no l ↦ omega arith
+    ]
+
+pub graph-room : (P table : List ℕ) (n : ℕ) → Graph (take planWords P) table n → planWords ≤ length P
+graph-room P table n G = cut-room P (G .long)
+
+-- once the slices or the plan are refused, the number asked for is no matter
+number-apart : (l f t : Bool) → (refusalOf l f true ≡ 0 → ⊥) → refusalOf l f t ≡ refusalOf l f true
+number-apart true true t n = absurd (n refl)
+number-apart true false t n = refl
+number-apart false f t n = refl
+
+-- items: the first of the lent table are those that the door fills
+
+pub items-short : (P T : List ℕ) (r : Number) → length T < maxItems → r ≡ record { refusal = 11; number = 0 } → ItemsAnswer P T r T
+items-short P T r h e =
+    record {
+      refusal = ap (λ (x : Number). x .refusal) e ∙ rw (lt-leb maxItems (length T) h) (go (longPlan P));
+      listed = λ z. absurd (let y : _≡_ {A = ℕ} 11 0 = sym (ap (λ (x : Number). x .refusal) e) ∙ z in omega arith);
+      refused = λ z. (ap (λ (x : Number). x .number) e, refl);
+    }
+  where
+    go : (l : Bool) → 11 ≡ refusalOf (l && false) (formedPlan P) true
+    go true = refl
+    go false = refl
+
+module _ (P T : List ℕ) (long : maxItems ≤ length T) (t : Bool) (r : Entry) (T1 : List ℕ) (B : ByPlan P t (take maxItems T) r T1) (m : ℕ) (number : m ≡ r .items) where
+  count-is : r .refusal ≡ 0 → m ≡ itemCount (planBody P)
+  count-is z = number ∙ B .clear z .count
+
+  pub items-whole : r .refusal ≡ 0 → T1 ++ drop maxItems T ≡ tableOf (planBody P) ++ drop (itemCount (planBody P)) T
+  items-whole z =
+      ap (λ (l : List ℕ). l ++ drop maxItems T) (B .listed z)
+      ∙ (append-assoc (tableOf (planBody P)) (drop (r .items) (take maxItems T)) (drop maxItems T)
+      ∙ ap (λ (l : List ℕ). tableOf (planBody P) ++ l)
+      (sym (drop-append-le (r .items) (take maxItems T) (drop maxItems T) (omega (arith, B .clear z .most, length-take-le maxItems T long)))
+      ∙ (ap (drop (r .items)) (take-append-drop maxItems T) ∙ ap (λ (k : ℕ). drop k T) (B .clear z .count))))
+
+  pub items-kept : (r .refusal ≡ 0 → ⊥) → T1 ++ drop maxItems T ≡ T
+  items-kept z = ap (λ (l : List ℕ). l ++ drop maxItems T) (B .refused z .1) ∙ take-append-drop maxItems T
+
+  pub items-entered : t ≡ true → ItemsAnswer P T (record { refusal = r .refusal; number = m }) (T1 ++ drop maxItems T)
+  items-entered e =
+      record {
+        refusal = B .refusal ∙ rw (e, le-leb maxItems (length T) long);
+        listed = λ z. (count-is z, items-whole z);
+        refused = λ z. (number ∙ B .refused z .0, items-kept z);
+      }
+
+-- edges
+
+module _ (P L : List ℕ) where
+  pub edges-refused : (table table′ : List ℕ) (r : Entry) (q : Number) → ByPlan P (leb edgeWords (length L)) table r table′ → (r .refusal ≡ 0 → ⊥) → q ≡ record { refusal = r .refusal; number = 0 } →
+      EdgesAnswer P L q L
+  edges-refused table table′ r q B n e =
+      record {
+        refusal = ap (λ (x : Number). x .refusal) e ∙ B .refusal;
+        listed = λ z. absurd (n (sym (ap (λ (x : Number). x .refusal) e) ∙ z));
+        refused = λ z. (ap (λ (x : Number). x .number) e, refl);
+      }
+
+  pub edges-listed : (formed : formedPlan P ≡ true) → planWords ≤ length P → edgeWords ≤ length L → (m k : ℕ) (L′ : List ℕ) → Drawn (take planWords P) L m L′ → k ≡ m →
+      EdgesAnswer P L (record { refusal = 0; number = k }) L′
+  edges-listed f p l m k L′ D e =
+      record {
+        refusal = rw (le-leb planWords (length P) p, le-leb edgeWords (length L) l, f);
+        listed = λ z. (D .edges, D .all, e ∙ D .count, D .put ∙ ap (λ (x : ℕ). flatMap three (D .edges) ++ drop (3 * x) L) (D .count));
+        refused = λ z. absurd (z refl);
+      }
+
+-- what a door that was passed tells of its slices
+pub door-long : (P : List ℕ) (long : Bool) (table table′ : List ℕ) (r : Entry) → ByPlan P long table r table′ → r .refusal ≡ 0 → long ≡ true
+door-long P long table table′ r B z = and-true (longPlan P) long (refusal-none (longPlan P && long) (formedPlan P) true (sym (B .refusal) ∙ z) .0) .1
+
+pub slice-long : (n : ℕ) (xs : List ℕ) → leb n (length xs) ≡ true → n ≤ length xs
+slice-long n xs e = leb-true n (length xs) e
+
+-- an opening
+module _ (P C W : List ℕ) where
+  pub open-refused : (table table′ : List ℕ) (r : Entry) → ByPlan P (leb countWords (length C) && leb valueWords (length W)) table r table′ → (r .refusal ≡ 0 → ⊥) →
+      refused P C W (r .refusal) ≡ openOf P C W
+  unfolding openOf
+  open-refused table table′ r B n = sym (rw (sym (B .refusal), ne-eqb (r .refusal) 0 n))
+
+  pub open-cut : planWords ≤ length P → openOf (take planWords P) C W ≡ openOf P C W
+  unfolding openOf
+  open-cut l = rw (cut-again P l, le-leb planWords (length (take planWords P)) (omega (arith, length-take-le planWords P l)), le-leb planWords (length P) l)
+
+  pub open-passed : planWords ≤ length P → (x : Left) → x ≡ openOf (take planWords P) C W → x ≡ openOf P C W
+  open-passed l x e = e ∙ open-cut l
+
+  -- a step or result that the door refuses
+  module _ (r : Entry) (table′ : List ℕ) (B : ByState P C (leb valueWords (length W)) r table′) where
+    module _ (n : r .refusal ≡ 0 → ⊥) where
+      call-refused : (t : Bool) (x : Left) → refused P C W (r .refusal) ≡ cond (eqb (callRefusal P C W t) 0) x (refused P C W (callRefusal P C W t))
+      call-refused t x =
+          sym (rw (number-apart (longSlices P C W) (formedPlan P && formedCounts P C W) t (λ z. n (B .refusal ∙ z)), ← B .refusal, ne-eqb (r .refusal) 0 n))
+
+      pub start-refused : (a : ℕ) → refused P C W (r .refusal) ≡ startOf P C W a
+      unfolding startOf
+      start-refused a = call-refused (isItem P a) _
+
+      pub finish-refused : (a : ℕ) → refused P C W (r .refusal) ≡ finishOf P C W a
+      unfolding finishOf
+      finish-refused a = call-refused (isItem P a) _
+
+      pub result-refused : (g : ℕ) → refused P C W (r .refusal) ≡ resultOf P C W g
+      unfolding resultOf
+      result-refused g = call-refused (ltb g (planBody P .regions)) _
+
+    -- one that it lets pass
+    module _ (z : r .refusal ≡ 0) where
+      pub state-room : planWords ≤ length P
+      state-room = graph-room P table′ (r .items) (B .clear z .graph)
+
+      pub values-long : valueWords ≤ length W
+      values-long =
+          let s = refusal-none (longSlices P C W) (formedPlan P && formedCounts P C []) true (sym (B .refusal) ∙ z) .0 in
+          leb-true valueWords (length W) (and-true (leb countWords (length C)) (leb valueWords (length W)) (and-true (longPlan P) (leb countWords (length C) && leb valueWords (length W)) s .1) .1)
+
+      pub start-passed : (a : ℕ) (x : Left) → x ≡ startOf (take planWords P) C W a → x ≡ startOf P C W a
+      start-passed a x e = e ∙ call-cut P state-room (lent C W) (start a)
+
+      pub finish-passed : (a : ℕ) (x : Left) → x ≡ finishOf (take planWords P) C W a → x ≡ finishOf P C W a
+      finish-passed a x e = e ∙ call-cut P state-room (lent C W) (finish a)
+
+      pub result-passed : (g : ℕ) (x : Left) → x ≡ resultOf (take planWords P) C W g → x ≡ resultOf P C W g
+      result-passed g x e = e ∙ call-cut P state-room (lent C W) (result g)

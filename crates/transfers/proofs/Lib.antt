@@ -1,0 +1,9 @@
+pub mod Places
+pub mod Rows
+pub mod Last
+pub mod FlagsOf
+pub mod Marks
+pub mod Flags
+pub mod Tally
+pub mod Masks
+pub mod Found

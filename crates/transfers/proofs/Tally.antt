@@ -1,0 +1,80 @@
+-- The number of flags is the number of transfers.
+use Prim.Native.Nat.{ℕ, _+_, _*_, _<_}
+use mathlib.Core.Path.{_≡_, refl, sym, _∙_, ap}
+use mathlib.Core.Bool.{Bool, true, false, cond, not}
+use mathlib.Core.List.{List}
+use native.Mathlib.Omega.{arith}
+use borrow.Author.Tests.{lt-ltb, le-ltb}
+use lib.Dec.{eqb}
+use lib.ListN.{length, getD}
+use Rattle.finite.specs.Below.{countBelow, sumBelow}
+use Rattle.finite.specs.Lists.{gather}
+use Rattle.finite.proofs.Below.{sum-ext, sum-const, sum-beyond, count-ext, count-beyond, count-never, count-split}
+use Rattle.finite.proofs.Lists.{getD-tabulate, length-gather, length-flatMap-range, length-flatMap-gather}
+use Rattle.body.specs.Transfers.{transfer, transferred, transfersOf, transferCount}
+use Rattle.plan.specs.Layout.{ranksOf, tasksOf, accessesOf, regionAt, isWritten, bodyOf}
+use Rattle.transfers.specs.Wanted.{wantedAt}
+use Rattle.transfers.specs.Search.{perFlag, wantedFlags, ones, planFlags}
+use Rattle.plan.proofs.Facts.{Formed}
+use Rattle.transfers.proofs.Flags.{perFlag-at}
+
+flag-holds : (b : Bool) → not (eqb (cond b 1 0) 0) ≡ b
+flag-holds true = refl
+flag-holds false = refl
+
+module _ (w : List ℕ) (F : Formed w) where
+  pub ones-flags : ones (wantedFlags w) ≡ countBelow planFlags (perFlag (wantedAt w))
+  unfolding ones
+  ones-flags =
+      count-ext planFlags (λ k. not (eqb (getD (wantedFlags w) k 0) 0)) (perFlag (wantedAt w))
+      (λ k l. ap (λ (x : ℕ). not (eqb x 0)) (getD-tabulate (λ k. cond (perFlag (wantedAt w) k) 1 0) planFlags k 0 l) ∙ flag-holds (perFlag (wantedAt w) k))
+
+  -- by task, access and rank
+  count-by : countBelow planFlags (perFlag (wantedAt w)) ≡ sumBelow 128 (λ i. sumBelow 8 (λ a. countBelow 16 (wantedAt w i a)))
+  count-by =
+      count-split 128 128 (perFlag (wantedAt w))
+      ∙ sum-ext 128 (λ i. countBelow 128 (λ j. perFlag (wantedAt w) (i * 128 + j))) (λ i. sumBelow 8 (λ a. countBelow 16 (wantedAt w i a)))
+      (λ i _. task i)
+    where
+      access : (i a : ℕ) → a < 8 → countBelow 16 (λ q. perFlag (wantedAt w) (i * 128 + (a * 16 + q))) ≡ countBelow 16 (wantedAt w i a)
+      access i a l =
+          count-ext 16 (λ q. perFlag (wantedAt w) (i * 128 + (a * 16 + q))) (wantedAt w i a)
+          (λ q m. perFlag-at (wantedAt w) (i * 128 + (a * 16 + q)) i a q l m (omega arith))
+
+      task : (i : ℕ) → countBelow 128 (λ j. perFlag (wantedAt w) (i * 128 + j)) ≡ sumBelow 8 (λ a. countBelow 16 (wantedAt w i a))
+      task i =
+          count-split 8 16 (λ j. perFlag (wantedAt w) (i * 128 + j))
+          ∙ sum-ext 8 (λ a. countBelow 16 (λ q. perFlag (wantedAt w) (i * 128 + (a * 16 + q)))) (λ a. countBelow 16 (wantedAt w i a)) (access i)
+
+  -- an access of a task
+  count-access : (i a : ℕ) → i < tasksOf w → a < accessesOf w i
+      → countBelow 16 (wantedAt w i a) ≡ cond (isWritten w i a) (length (gather (ranksOf w) (transferred (bodyOf w) i (regionAt w i a)) (transfer i (regionAt w i a)))) 0
+  unfolding wantedAt
+  count-access i a l m = by (isWritten w i a) refl
+    where
+      by : (b : Bool) → isWritten w i a ≡ b → countBelow 16 (wantedAt w i a) ≡ cond b (length (gather (ranksOf w) (transferred (bodyOf w) i (regionAt w i a)) (transfer i (regionAt w i a)))) 0
+      by true e =
+          count-beyond 16 (ranksOf w) (wantedAt w i a) (F .ranks-most) (λ q u v. rw (lt-ltb i (tasksOf w) l, lt-ltb a (accessesOf w i) m, e, le-ltb q (ranksOf w) u))
+          ∙ (count-ext (ranksOf w) (wantedAt w i a) (transferred (bodyOf w) i (regionAt w i a)) (λ q u. rw (lt-ltb i (tasksOf w) l, lt-ltb a (accessesOf w i) m, e, lt-ltb q (ranksOf w) u))
+          ∙ sym (length-gather (ranksOf w) (transferred (bodyOf w) i (regionAt w i a)) (transfer i (regionAt w i a))))
+      by false e = count-never 16 (wantedAt w i a) (λ q u. rw (lt-ltb i (tasksOf w) l, lt-ltb a (accessesOf w i) m, e))
+
+  count-task : (i : ℕ) → i < tasksOf w → sumBelow 8 (λ a. countBelow 16 (wantedAt w i a)) ≡ length (transfersOf (bodyOf w) i)
+  unfolding wantedAt transfersOf
+  count-task i l =
+      let u = F .used i l in
+      sum-beyond 8 (accessesOf w i) (λ a. countBelow 16 (wantedAt w i a)) (u .accesses-most)
+      (λ a m n. count-never 16 (wantedAt w i a) (λ q v. rw (lt-ltb i (tasksOf w) l, le-ltb a (accessesOf w i) m)))
+      ∙ (sum-ext (accessesOf w i) (λ a. countBelow 16 (wantedAt w i a))
+      (λ a. cond (isWritten w i a) (length (gather (ranksOf w) (transferred (bodyOf w) i (regionAt w i a)) (transfer i (regionAt w i a)))) 0) (λ a m. count-access i a l m)
+      ∙ sym (length-flatMap-gather (λ g. gather (ranksOf w) (transferred (bodyOf w) i g) (transfer i g)) (accessesOf w i) (isWritten w i) (regionAt w i)))
+
+  pub count-found : ones (wantedFlags w) ≡ transferCount (bodyOf w)
+  unfolding wantedAt transferCount
+  count-found =
+      ones-flags
+      ∙ (count-by
+      ∙ (sum-beyond 128 (tasksOf w) (λ i. sumBelow 8 (λ a. countBelow 16 (wantedAt w i a))) (F .tasks-most)
+      (λ i m n. sum-ext 8 (λ a. countBelow 16 (wantedAt w i a)) (λ a. 0) (λ a u. count-never 16 (wantedAt w i a) (λ q v. rw (le-ltb i (tasksOf w) m))) ∙ sum-const 8 0)
+      ∙ (sum-ext (tasksOf w) (λ i. sumBelow 8 (λ a. countBelow 16 (wantedAt w i a))) (λ i. length (transfersOf (bodyOf w) i)) count-task
+      ∙ sym (length-flatMap-range (transfersOf (bodyOf w)) (tasksOf w)))))

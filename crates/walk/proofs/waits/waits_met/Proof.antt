@@ -1,0 +1,14 @@
+use borrow.Author.Needs.{needs}
+use denote.Ref.{now}
+use Rattle.walk.proofs.Waiting.{waits-halves}
+use Rattle.walk.proofs.waits.waits_met.Statement.{statement}
+use Rattle.walk.proofs.waits.waits_met.Tie as tie
+
+returns : tie.Need-returns
+returns c =
+    let marked = c .before .before .before .before .before in
+    let start = marked .before .before .before .before in
+    waits-halves _ _ (now (start .args .finished)) _ _ _ _ _ (marked .mark-row .ensures) (start .pre .0 .count) (start .pre .1) (c .before .before .all-met .ensures) (c .all-met2 .ensures)
+
+pub waits-met-spec : {M : Type 1} → statement M
+waits-met-spec = tie.close (tie.spec (λ c. search needs) (λ c κs. search needs) (λ c κs. search needs) (λ c κs. search needs) returns)

@@ -1,0 +1,5 @@
+// The edges and waits of a plan's items: from an item it walks round the loop to the writers of the
+// places that the item touches.
+pub mod list;
+pub mod rows;
+pub mod waits;
