@@ -19,7 +19,8 @@ int main(int argc, char **argv) {
     if (argc < 3)
         return 2;
     int length = named_plan(text, argv[2]);
-    taskiter_reading answer = taskiter_read((const uint8_t *)text, (size_t)length, plan, TASKITER_PLAN_WORDS);
+    taskiter_reading answer =
+        taskiter_read((const uint8_t *)text, (size_t)length, plan, TASKITER_PLAN_WORDS);
     if (answer.refusal != 0) {
         fprintf(stderr, "refused %" PRIu64 " %" PRIu64 "\n", answer.refusal, answer.line);
         return 1;
