@@ -104,9 +104,6 @@ module _ (P L : List ℕ) where
 pub door-long : (P : List ℕ) (long : Bool) (table table′ : List ℕ) (r : Entry) → ByPlan P long table r table′ → r .refusal ≡ 0 → long ≡ true
 door-long P long table table′ r B z = and-true (longPlan P) long (refusal-none (longPlan P && long) (formedPlan P) true (sym (B .refusal) ∙ z) .0) .1
 
-pub slice-long : (n : ℕ) (xs : List ℕ) → leb n (length xs) ≡ true → n ≤ length xs
-slice-long n xs e = leb-true n (length xs) e
-
 -- an opening
 module _ (P C W : List ℕ) where
   pub open-refused : (table table′ : List ℕ) (r : Entry) → ByPlan P (leb countWords (length C) && leb valueWords (length W)) table r table′ → (r .refusal ≡ 0 → ⊥) →

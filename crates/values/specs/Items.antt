@@ -1,4 +1,4 @@
--- What the private functions are lent of a plan. Nothing here need be believed.
+-- What the inner functions are lent of a plan. Nothing here need be believed.
 use Prim.Native.Nat.{ℕ, _<_}
 use mathlib.Core.Path.{_≡_}
 use mathlib.Core.Bool.{true}

@@ -1,9 +1,11 @@
 use mathlib.Core.Path.{sym}
 use borrow.Author.Needs.{needs}
+use borrow.Author.Tests.{leb-true}
 use denote.Ref.{now}
+use lib.ListN.{length}
 use lib.Seq.{length-take-le}
 use Rattle.plan.specs.Sizes.{edgeWords}
-use Rattle.taskiter.proofs.Exported.{graph-room, edges-refused, edges-listed, door-long, slice-long}
+use Rattle.taskiter.proofs.Exported.{graph-room, edges-refused, edges-listed, door-long}
 use Rattle.taskiter.proofs.taskiter_edges.Statement.{statement}
 use Rattle.taskiter.proofs.taskiter_edges.Tie as tie
 
@@ -23,7 +25,7 @@ list-edges-requires c κs =
     let s = (c .before .before .before .before .before .before .before .before .before .before) in
     let B = (c .before .before .before .before .before .before) .enter-plan .ensures in
     let z = (c .before .before .before) .if1 .left in
-    (B .clear z, slice-long edgeWords (now (s .args .list)) (door-long (now (s .args .plan)) _ _ _ _ B z))
+    (B .clear z, leb-true edgeWords (length (now (s .args .list))) (door-long (now (s .args .plan)) _ _ _ _ B z))
 
 returns-2 : tie.Need-returns-2
 returns-2 c =
@@ -35,7 +37,7 @@ returns-2 c =
     let B = enter-plan .enter-plan .ensures in
     let z = else1 .if1 .left in
     edges-listed P (now (s .args .list)) (B .clear z .formed) (graph-room P _ _ (B .clear z))
-    (slice-long edgeWords (now (s .args .list)) (door-long P _ _ _ _ B z)) _ _ _
+    (leb-true edgeWords (length (now (s .args .list))) (door-long P _ _ _ _ B z)) _ _ _
     (list-edges .list-edges .ensures) (c .as-word .ensures)
 
 pub taskiter-edges-spec : {M : Type 1} → statement M

@@ -1,5 +1,6 @@
 use mathlib.Core.Path.{sym, _∙_}
 use borrow.Author.Needs.{needs}
+use borrow.Author.Tests.{leb-true}
 use denote.Ref.{now}
 use lib.Dec.{leb}
 use lib.ListN.{length}
@@ -7,7 +8,7 @@ use lib.Seq.{length-take-le}
 use Rattle.finite.proofs.Tests.{and-true}
 use Rattle.plan.specs.Sizes.{countWords, valueWords}
 use Rattle.steps.proofs.Answering.{open-short}
-use Rattle.taskiter.proofs.Exported.{graph-room, door-long, slice-long, open-refused, open-passed}
+use Rattle.taskiter.proofs.Exported.{graph-room, door-long, open-refused, open-passed}
 use Rattle.taskiter.proofs.taskiter_open.Statement.{statement}
 use Rattle.taskiter.proofs.taskiter_open.Tie as tie
 
@@ -35,7 +36,7 @@ open-clear-requires c κs =
     let B = (c .before .before .before .before .before .before .before) .enter-plan .ensures in
     let z = (c .before .before .before .before) .if2 .left in
     let l = and-true (leb countWords (length C)) (leb valueWords (length W)) (door-long (now (s .args .plan)) _ _ _ _ B z) in
-    (B .clear z, slice-long countWords C (l .0), slice-long valueWords W (l .1))
+    (B .clear z, leb-true countWords (length C) (l .0), leb-true valueWords (length W) (l .1))
 
 returns-3 : tie.Need-returns-3
 returns-3 c =
