@@ -1,0 +1,1 @@
+// Lines of output, put at the start of a lent slice.
