@@ -57,10 +57,13 @@ static void put_counts(struct trial *trial, struct rng *rng) {
     memcpy(trial->expected.counts, trial->lent.counts, sizeof trial->lent.counts);
 }
 
-/* Makes each call once with the memory as it is, and puts it back. */
+/* Makes each call once, and a list of three, with the memory as it is, and puts it back. */
 static void try_all(struct trial *trial, struct rng *rng, struct lengths lengths) {
     static struct memory kept;
     kept = trial->lent;
+    uint64_t calls[] = {draw_call(trial, rng), draw_call(trial, rng), draw_call(trial, rng)};
+    try_play(trial, lengths, calls, 3, 6);
+    trial->lent = trial->expected = kept;
     for (int call = 0; call < CALLS; call++) {
         try_any(trial, rng, (enum call)call, lengths);
         trial->lent = trial->expected = kept;

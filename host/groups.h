@@ -18,6 +18,10 @@ void graph_group(struct trial *trial, struct rng *rng);
    loop's. */
 void steps_group(struct trial *trial, struct rng *rng);
 
+/* A whole play by lists of calls, refused ones among them, each list made by one call: the answers
+   are those of its calls, the results the unrolled loop's. */
+void lists_group(struct trial *trial, struct rng *rng);
+
 /* Plans and counts with one word changed, and states that belong to no loop. */
 void damage_group(struct trial *trial, struct rng *rng);
 
@@ -44,7 +48,10 @@ struct lengths draw_enough(struct rng *rng);
    none. */
 int find_free(struct trial *trial, struct rng *rng, int pick, enum call call);
 
-/* Every call once, with a count or a word of the plan changed or with slices that may be too short.
+/* The word of a call that may well be refused. */
+uint64_t draw_call(struct trial *trial, struct rng *rng);
+
+/* Every call once, and a list of calls, with a count or a word of the plan changed or with slices that may be too short.
    Leaves the memory as it was. */
 void try_damage(struct trial *trial, struct rng *rng);
 

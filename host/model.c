@@ -147,3 +147,18 @@ struct answer model_call(enum call call, const struct shape *shape, struct memor
         return (struct answer){0, 0};
     }
 }
+
+uint64_t model_play(const struct shape *shape, struct memory *memory, struct lengths lengths,
+                    const uint64_t *calls, size_t number, uint64_t *answers,
+                    size_t answers_length) {
+    static const enum call kinds[] = {START_CALL, FINISH_CALL, RESULT_CALL};
+    if (too_short(lengths) || answers_length < 2 * number)
+        return 11;
+    for (size_t k = 0; k < number; k++) {
+        struct answer answer =
+            model_call(kinds[calls[k] % 3], shape, memory, lengths, calls[k] / 3);
+        answers[2 * k] = answer.refusal;
+        answers[2 * k + 1] = answer.word;
+    }
+    return 0;
+}

@@ -44,6 +44,12 @@ void make_shape(const uint64_t *words, struct shape *shape);
 struct answer model_call(enum call call, const struct shape *shape, struct memory *memory,
                          struct lengths lengths, uint64_t number);
 
+/* Makes a list of calls on the memory, and fills the answers, two words a call. Gives the refusal
+   of the whole. */
+uint64_t model_play(const struct shape *shape, struct memory *memory, struct lengths lengths,
+                    const uint64_t *calls, size_t number, uint64_t *answers,
+                    size_t answers_length);
+
 /* Whether every item has finished every pass. */
 bool complete(const struct shape *shape, const struct memory *memory);
 

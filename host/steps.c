@@ -100,13 +100,20 @@ static void take_free(struct trial *trial, struct rng *rng, struct order *order)
     compare_word(trial, order, call, item, answer.word);
 }
 
-/* Makes a call that may well be refused. */
-static void take_blind(struct trial *trial, struct rng *rng, struct order *order) {
+/* A call that may well be refused, and the number that it asks for. */
+static enum call draw_blind(struct trial *trial, struct rng *rng, uint64_t *asked) {
     static const enum call calls[] = {START_CALL,  START_CALL,  START_CALL,
                                       FINISH_CALL, FINISH_CALL, RESULT_CALL};
     enum call call = calls[draw_below(rng, 6)];
-    uint64_t asked =
-        draw_asked(rng, call == RESULT_CALL ? trial->shape.plan.regions : trial->shape.graph.items);
+    int n = call == RESULT_CALL ? trial->shape.plan.regions : trial->shape.graph.items;
+    *asked = draw_asked(rng, trial->shape.formed ? n : MAX_ITEMS);
+    return call;
+}
+
+/* Makes a call that may well be refused. */
+static void take_blind(struct trial *trial, struct rng *rng, struct order *order) {
+    uint64_t asked;
+    enum call call = draw_blind(trial, rng, &asked);
     struct answer answer = try_call(trial, call, draw_enough(rng), asked);
     if (answer.refusal == 0 && call != RESULT_CALL)
         compare_word(trial, order, call, (int)asked, answer.word);
@@ -161,6 +168,65 @@ void steps_group(struct trial *trial, struct rng *rng) {
     if (draw_below(rng, 4) == 0)
         play_plan(trial, rng, draw_below(rng, FEW_STEPS));
     play_plan(trial, rng, trial->shape.plan.passes < MAX_PASSES / 2 ? LONG_MAX : FEW_STEPS);
+}
+
+/* A call as a word. A number that no such word has becomes a smaller one. */
+static uint64_t call_word(enum call call, uint64_t number) {
+    uint64_t fits = number % (UINT64_MAX / 3);
+    return call == START_CALL    ? TASKITER_CALL_START(fits)
+           : call == FINISH_CALL ? TASKITER_CALL_FINISH(fits)
+                                 : TASKITER_CALL_RESULT(fits);
+}
+
+uint64_t draw_call(struct trial *trial, struct rng *rng) {
+    uint64_t asked;
+    enum call call = draw_blind(trial, rng, &asked);
+    return call_word(call, asked);
+}
+
+/* A list of calls from the state as it stands: steps that are free then, and any calls between. */
+static size_t draw_list(struct trial *trial, struct rng *rng, uint64_t *calls) {
+    static struct memory kept;
+    size_t number = (size_t)draw_below(rng, LIST_ROOM + 1);
+    uint64_t answers[2];
+    kept = trial->expected;
+    for (size_t k = 0; k < number; k++) {
+        enum call call = draw_below(rng, 2) == 0 ? START_CALL : FINISH_CALL;
+        int item = draw_below(rng, 4) == 0 ? -1 : find_free(trial, rng, 2, call);
+        calls[k] = item < 0 ? draw_call(trial, rng) : call_word(call, (uint64_t)item);
+        model_play(&trial->shape, &trial->expected, least, &calls[k], 1, answers, 2);
+    }
+    trial->expected = kept;
+    return number;
+}
+
+/* The answers have room for the list, or for more, or for one word less than it needs. */
+static void play_list(struct trial *trial, struct rng *rng) {
+    uint64_t calls[LIST_ROOM];
+    size_t number = draw_list(trial, rng, calls);
+    if (number > 0)
+        try_play(trial, least, calls, number, 2 * number - 1);
+    try_play(trial, draw_enough(rng), calls, number, 2 * number + (size_t)draw_below(rng, GUARD));
+}
+
+void lists_group(struct trial *trial, struct rng *rng) {
+    struct loop loop;
+    put_drawn_plan(trial, rng);
+    try_call(trial, OPEN_CALL, least, 0);
+    for (int k = 0; k < FEW_STEPS && !complete(&trial->shape, &trial->expected); k++)
+        play_list(trial, rng);
+    if (!complete(&trial->shape, &trial->expected))
+        return;
+    loop_begin(&loop, &trial->shape.plan);
+    for (int g = 0; g < trial->shape.plan.regions; g++) {
+        uint64_t call = TASKITER_CALL_RESULT(g), answer[2] = {1, 0};
+        taskiter_play(trial->lent.plan, PLAN_WORDS, trial->lent.counts, COUNTS, trial->lent.values,
+                      VALUES, &call, 1, answer, 2);
+        if (answer[0] != 0 || answer[1] != loop_final(&loop, g))
+            differ(trial, "region %d has %" PRIu64 ", the unrolled loop %" PRIu64, g, answer[1],
+                   loop_final(&loop, g));
+    }
+    loop_end(&loop);
 }
 
 /* The edges are those of the rule, tried on all pairs. */

@@ -7,9 +7,10 @@
    accepted, and how often each refusal was given. Exit status 0 where nothing differs and each
    refusal was met, 1 where not.
 
-   stress --control answer|word|edge|line [SEED [PLANS]] is a run in which one answer, one word of
-   the lent state after a call, one edge or one line number is changed before it is compared. It has
-   to end with the difference reported and status 1. The status is 2 where it is not reported. */
+   stress --control answer|word|edge|line|reply [SEED [PLANS]] is a run in which one answer, one
+   word of the lent state after a call, one edge, one line number or one word of a list's answers is
+   changed before it is compared. It has to end with the difference reported and status 1. The
+   status is 2 where it is not reported. */
 #include <stdio.h>
 #include <stdlib.h>
 #include <string.h>
@@ -64,6 +65,7 @@ static void run_groups(struct count *all) {
     run_group("reading", reading_group, all->each, all);
     run_group("graph", graph_group, all->each, all);
     run_group("steps", steps_group, all->each, all);
+    run_group("lists", lists_group, all->each, all);
     run_group("damage", damage_group, all->each, all);
     run_group("short", short_group, all->each, all);
     run_group("bare", bare_group, all->each, all);
@@ -73,8 +75,8 @@ static void run_groups(struct count *all) {
 /* Prepares the control that an argument names. In each plan there are at least so many chances for
    the change; one of them is drawn. Answers false where it names none. */
 static bool take_control(struct count *all, const char *name) {
-    static const char *const names[CHANGES] = {"", "answer", "word", "edge", "line"};
-    static const int chances[CHANGES] = {0, 150, 150, 1, 16};
+    static const char *const names[CHANGES] = {"", "answer", "word", "edge", "line", "reply"};
+    static const int chances[CHANGES] = {0, 150, 150, 1, 16, 16};
     struct control *control = &all->control;
     for (int change = NO_CHANGE + 1; change < CHANGES; change++)
         if (strcmp(name, names[change]) == 0) {
@@ -106,7 +108,7 @@ int main(int argc, char **argv) {
     if (argc > first + 1)
         all.each = strtol(argv[first + 1], NULL, 10);
     if (all.each < 1 || all.each > MOST_PLANS || (controlled && !take_control(&all, argv[2]))) {
-        fprintf(stderr, "usage: stress [--control answer|word|edge|line] [SEED [PLANS]]\n");
+        fprintf(stderr, "usage: stress [--control answer|word|edge|line|reply] [SEED [PLANS]]\n");
         return 2;
     }
     run_groups(&all);

@@ -277,7 +277,8 @@ void paper_group(struct trial *trial, struct rng *rng) {
     static char text[TEXT_ROOM];
     for (int k = 0; k < (int)(sizeof listed / sizeof *listed); k++)
         try_listed(trial, rng, text, put_listed(text, k), listed[k].reading);
-    try_listed(trial, rng, text, 0, (struct reading){2, 1});
+    for (int k = 0; k < 2; k++)
+        try_listed(trial, rng, text, 0, (struct reading){2, 1});
 }
 
 void reading_group(struct trial *trial, struct rng *rng) {

@@ -19,7 +19,7 @@ const struct lengths least = {PLAN_WORDS, COUNTS, VALUES};
 static const char *const call_names[CALLS] = {"open", "start", "finish", "result"};
 
 static const char *const change_names[CHANGES] = {"nothing", "an answer", "a word", "an edge",
-                                                  "a line"};
+                                                  "a line", "a reply"};
 
 void differ(const struct trial *trial, const char *form, ...) {
     va_list rest;
@@ -78,6 +78,15 @@ static void change_edge(struct trial *trial, uint32_t *edges, uint64_t number) {
         return;
     uint32_t *at = &edges[draw_below(&control->rng, 3 * (int)number)];
     *at = (uint32_t)flipped(control, *at, 32);
+}
+
+/* Changes a bit of one answer of a list, where it has calls. */
+static void change_reply(struct trial *trial, uint64_t *answers, size_t number) {
+    struct control *control = trial->control;
+    if (number == 0 || !makes_change(trial, CHANGED_REPLY))
+        return;
+    uint64_t *at = &answers[draw_below(&control->rng, 2 * (int)number)];
+    *at = flipped(control, *at, 64);
 }
 
 void count_answer(struct trial *trial, uint64_t refusal) {
@@ -164,6 +173,30 @@ struct answer try_call(struct trial *trial, enum call call, struct lengths lengt
     return expected;
 }
 
+uint64_t try_play(struct trial *trial, struct lengths l, const uint64_t *calls, size_t number,
+                  size_t answers_length) {
+    static uint64_t lent[GUARD + 2 * LIST_ROOM + GUARD], expected[GUARD + 2 * LIST_ROOM + GUARD];
+    uint64_t kept[LIST_ROOM];
+    memcpy(kept, calls, number * sizeof *calls);
+    memset(lent, (int)trial->calls, sizeof lent);
+    memcpy(expected, lent, sizeof lent);
+    uint64_t refusal = model_play(&trial->shape, &trial->expected, l, calls, number,
+                                  expected + GUARD, answers_length);
+    uint64_t got = taskiter_play(trial->lent.plan, l.plan, trial->lent.counts, l.counts,
+                                 trial->lent.values, l.values, number > 0 ? calls : NULL, number,
+                                 answers_length > 0 ? lent + GUARD : NULL, answers_length);
+    count_answer(trial, refusal);
+    if (got != refusal)
+        differ(trial, "play answers %" PRIu64 ", expected %" PRIu64, got, refusal);
+    for (size_t k = 0; refusal == 0 && k < number; k++)
+        count_answer(trial, expected[GUARD + 2 * k]);
+    change_reply(trial, lent + GUARD, refusal == 0 ? number : 0);
+    compare_bytes(trial, "the answers of a list", expected, lent, sizeof lent);
+    compare_bytes(trial, "the calls", kept, calls, number * sizeof *calls);
+    compare_memory(trial, "play");
+    return refusal;
+}
+
 struct reading try_read(struct trial *trial, const uint8_t *text, size_t length,
                         size_t plan_length) {
     static struct plan plan;
@@ -175,7 +208,9 @@ struct reading try_read(struct trial *trial, const uint8_t *text, size_t length,
         plan_words(&plan, trial->expected.plan);
     else if (expected.refusal != 11)
         memset(trial->expected.plan, 0, sizeof trial->expected.plan);
-    taskiter_reading got = taskiter_read(text, length, trial->lent.plan, plan_length);
+    /* every other empty text is no pointer at all */
+    const uint8_t *lent = length > 0 || trial->texts % 2 == 0 ? text : NULL;
+    taskiter_reading got = taskiter_read(lent, length, trial->lent.plan, plan_length);
     count_answer(trial, (uint64_t)expected.refusal);
     trial->texts++;
     if (makes_change(trial, CHANGED_LINE))

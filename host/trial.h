@@ -8,11 +8,19 @@
 #include "model.h"
 #include "reading.h"
 
-enum { LAST_REFUSAL = 18, ITEM_ROOM = MAX_ITEMS, EDGE_ROOM = 3 * MAX_EDGES };
+enum { LAST_REFUSAL = 18, ITEM_ROOM = MAX_ITEMS, EDGE_ROOM = 3 * MAX_EDGES, LIST_ROOM = 64 };
 
 /* What a control run changes once, between the runtime and the comparison: an answer, a word of the
-   lent state after a call, an edge, or the line that reading answers. */
-enum change { NO_CHANGE, CHANGED_ANSWER, CHANGED_WORD, CHANGED_EDGE, CHANGED_LINE, CHANGES };
+   lent state after a call, an edge, the line that reading answers, or a word of a list's answers. */
+enum change {
+    NO_CHANGE,
+    CHANGED_ANSWER,
+    CHANGED_WORD,
+    CHANGED_EDGE,
+    CHANGED_LINE,
+    CHANGED_REPLY,
+    CHANGES
+};
 
 /* The change is made when so many chances for it have passed. */
 struct control {
@@ -69,6 +77,11 @@ void compare_answer(struct trial *trial, enum call call, uint64_t number, struct
 /* Makes a call on the memories and compares them; gives the answer of both. */
 struct answer try_call(struct trial *trial, enum call call, struct lengths lengths,
                        uint64_t number);
+
+/* Makes a list of at most LIST_ROOM calls on the memories by one call of the runtime, and compares
+   them, with the answers in a slice of their own. Gives the refusal of the whole. */
+uint64_t try_play(struct trial *trial, struct lengths lengths, const uint64_t *calls, size_t number,
+                  size_t answers_length);
 
 /* Reads a text into the memories' plans and compares; the shape is that of the new words where the
    text is accepted. */

@@ -1,40 +1,51 @@
 /* taskiter: a proved runtime for iterative task loops.
 
-   A plan text gives one loop body as tasks on ranks, with the regions that they read and write; a region is one 64-bit word. The runtime adds a
-   send and a receive for each word that another rank reads. These, with the tasks, are the items. It draws the cyclic graph of the taskiter rule:
-   which item waits for which, within a pass of the loop and from one pass to the next. The host calls taskiter_read once for each plan,
-   taskiter_open once for each run, and then taskiter_start and taskiter_finish in whatever order it likes, pass after pass, until every item has
-   finished every pass; then taskiter_result gives each region's number. Whatever the order of the calls, every word answered is the one of the
-   loop unrolled and run in order.
+   A plan text gives one loop body as tasks on ranks, with the regions that they read and write; a
+   region is one 64-bit word. The runtime adds a send and a receive for each word that another rank
+   reads. These, with the tasks, are the items. It draws the cyclic graph of the taskiter rule:
+   which item waits for which, within a pass of the loop and from one pass to the next. The host
+   calls taskiter_read once for each plan, taskiter_open once for each run, and then taskiter_start
+   and taskiter_finish in whatever order it likes, pass after pass, until every item has finished
+   every pass; then taskiter_result gives each region's number. Whatever the order of the calls,
+   every word answered is the one of the loop unrolled and run in order.
 
-   The runtime computes: a start computes the word by the task's kernel, a finish writes it. The host chooses the order. Each rank has a copy of
-   each region, each transfer a slot between its send and its receive, and each item a word that it holds; copies and slots are the places that
-   items read and write. All of them lie in the lent values. Real threads and messages are the host's.
+   The runtime computes: a start computes the word by the task's kernel, a finish writes it. The
+   host chooses the order. Each rank has a copy of each region, each transfer a slot between its
+   send and its receive, and each item a word that it holds; copies and slots are the places that
+   items read and write. All of them lie in the lent values. Real threads and messages are the
+   host's.
 
    All memory is the host's. The runtime keeps nothing between calls and allocates nothing.
 
    Duties of the host, for every call:
-     - each slice is as long as the call says, in elements, aligned for its type, and not NULL, even where its length is 0;
+     - each slice is as long as the call says, in elements, and aligned for its type;
+     - a slice is not NULL, even where its length is 0: only the text of taskiter_read and the
+       slices calls and answers of taskiter_play may be (NULL, 0);
      - the slices of one call do not overlap;
      - calls come one after another (docs/HOST.md says more of threads).
-   With these kept every call ends and does nothing undefined, whatever the slices hold. For the words to be those of the unrolled loop, besides:
-     - from an accepted opening of the plan on, plan and state come to a call as the call before left them.
-   Words that reading leaves for no text, and counts out of form (docs/LAYOUT.md), are refused with 12. A state that was never opened, or belongs to
-   another plan, may pass this test, as one of zeros does.
+   With these kept every call ends and does nothing undefined, whatever the slices hold. For the
+   words to be those of the unrolled loop, besides:
+     - from an accepted opening of the plan on, plan and state come to a call as the call before
+       left them.
+   Words that reading leaves for no text, and counts out of form (docs/LAYOUT.md), are refused with
+   12. A state that was never opened, or belongs to another plan, may pass this test, as one of
+   zeros does.
 
-   An answer carries a refusal number. 0 says that the call is accepted, and only then is the word to be used. A refused call changes nothing, with
-   one exception: where taskiter_read refuses a text for 1 to 10, the plan becomes zeros. The numbers:
+   An answer carries a refusal number. 0 says that the call is accepted, and only then is the word
+   to be used. A refused call changes nothing, with one exception: where taskiter_read refuses a
+   text for 1 to 10, the plan becomes zeros. The numbers:
 
-      1  a line not in form, or without its line feed   11  a slice too short
-      2  no `loop` first, or a record out of place      12  the plan is not one that reading leaves, or the counts of
-      3  a number out of its limits                         an item are out of form
-      4  `begin` while a task is open                   13  item or region number too large
-      5  an access or `end` with no task open           14  start: no pass left to finish
-      6  a region named twice                           15  start: the item is running
-      7  the text ends with a task open                 16  start: something it waits for has not finished
-      8  the text ends with no task                     17  finish: the item is not running
-      9  wrong number of reads for the kernel           18  result: the loop is not complete
-     10  too long, too many tasks, accesses or transfers
+      1  a line not in form, or without its line feed  11  a slice too short
+      2  no `loop` first, or a record out of place     12  the plan is not one that reading leaves,
+      3  a number out of its limits                        or the counts of an item are out of form
+      4  `begin` while a task is open                  13  item or region number too large
+      5  an access or `end` with no task open          14  start: no pass left to finish
+      6  a region named twice                          15  start: the item is running
+      7  the text ends with a task open                16  start: a source has not finished
+      8  the text ends with no task                    17  finish: the item is not running
+      9  wrong number of reads for the kernel          18  result: the loop is not complete
+     10  too long, too many tasks, accesses or
+         transfers
 
    docs/HOST.md says what a host does about each, docs/LAYOUT.md what stands where in the slices. */
 #ifndef TASKITER_H
@@ -47,10 +58,12 @@
 extern "C" {
 #endif
 
-/* A text has at most so many bytes. It has no NUL at its end: one that is counted is a line not in form. */
+/* A text has at most so many bytes. It has no NUL at its end: one that is counted is a line not in
+   form. */
 #define TASKITER_MAX_BYTES 32768
 
-/* The least lengths of the lent slices, in elements: the same for all plans. What lies behind them is neither read nor changed. */
+/* The least lengths of the lent slices, in elements: the same for all plans. What lies behind them
+   is neither read nor changed. */
 #define TASKITER_PLAN_WORDS 1668 /* uint64_t: 13,344 bytes */
 #define TASKITER_COUNTS 1280     /* TASKITER_COUNT_TYPE: 5,120 bytes */
 #define TASKITER_VALUES 3328     /* uint64_t: 26,624 bytes */
@@ -61,61 +74,122 @@ extern "C" {
 /* No plan has more items than this: their numbers lie below it. */
 #define TASKITER_MAX_ITEMS 640
 
-/* The least length of a slice for the edges, three numbers each: no plan has more than 4,224. 50,688 bytes. */
+/* The least length of a slice for the edges, three numbers each: no plan has more than 4,224.
+   50,688 bytes. */
 #define TASKITER_EDGE_NUMBERS 12672
 
-/* Refusal 0: the text is accepted, and line is 0. Else the refusal (1 to 11) and the line that it is for: the first line is 1; a refusal at the end
-   of the text is for one line past the last; 0 where no line was looked at (a text too long, a slice too short). */
+/* Refusal 0: the text is accepted, and line is 0. Else the refusal (1 to 11) and the line that it
+   is for: the first line is 1; a refusal at the end of the text is for one line past the last; 0
+   where no line was looked at (a text too long, a slice too short). */
 typedef struct {
     uint64_t refusal;
     uint64_t line;
 } taskiter_reading;
 
-/* Refusal 0: accepted, and the word is the answer, which may be any 64-bit number, 0 too. Else the refusal (11 to 18), and the word is 0. */
+/* Refusal 0: accepted, and the word is the answer, which may be any 64-bit number, 0 too. Else the
+   refusal (11 to 18), and the word is 0. */
 typedef struct {
     uint64_t refusal;
     uint64_t word;
 } taskiter_answer;
 
-/* Reads a text into the plan.
-   Accepted: the first TASKITER_PLAN_WORDS words of the plan are written. Refused for 1 to 10: they are zeros. Refused for 11, when the plan is
-   too short: nothing is changed. */
-taskiter_reading taskiter_read(const uint8_t *text, size_t text_length, uint64_t *plan, size_t plan_length);
-
-/* The items of the plan and the edges between them, for a host that wants to know what a step is, where it belongs and what it may free.
-
-   taskiter_items puts a number n for each item into a slice of at least TASKITER_MAX_ITEMS, and answers how many items there are. The item's rank is
-   n / 512, its kind n / 128 % 4: 0 a task, 1 a send, 2 a receive. n % 128 is the task's number, or the region that is sent. Items are numbered from
-   0: each task, then its sends, each with its receive right behind it.
-   taskiter_edges puts from, to and distance of each edge into a slice of at least TASKITER_EDGE_NUMBERS, in that order, and answers how many
-   edges there are. An item waits for the source of each edge into it: at distance 0 in the same pass, at distance 1 in the pass before.
-   What lies behind the last number is left as it is. Refused for 11 or 12, with number 0 and nothing changed. */
+/* Refusal 0: accepted, and the number. Else the refusal, and the number is 0. */
 typedef struct {
     uint64_t refusal;
     uint64_t number;
 } taskiter_number;
 
-taskiter_number taskiter_items(const uint64_t *plan, size_t plan_length, uint16_t *items, size_t items_length);
-taskiter_number taskiter_edges(const uint64_t *plan, size_t plan_length, uint32_t *edges, size_t edges_length);
+/* Reads a text into the plan.
+   Accepted: the first TASKITER_PLAN_WORDS words of the plan are written. Refused for 1 to 10: they
+   are zeros. Refused for 11, when the plan is too short: nothing is changed. (NULL, 0) is an empty
+   text. */
+taskiter_reading taskiter_read(const uint8_t *text, size_t text_length, uint64_t *plan,
+                               size_t plan_length);
 
-/* Opens a state for the plan: every copy gets its starting value, and counts, slots and held words become 0. What the plan does not use of the
-   state is left as it is. Answers the refusal, 11 or 12 (of the plan alone), or 0. A state may be opened again at any time. */
-uint64_t taskiter_open(const uint64_t *plan, size_t plan_length, TASKITER_COUNT_TYPE *counts, size_t counts_length, uint64_t *values, size_t values_length);
+/* The items of the plan and the edges between them, for a host that wants to know what a step is,
+   where it belongs and what it may free.
 
-/* Starts the next pass of an item: it reads its places, and answers the word that it computes, which it holds for the finish. A send or
-   receive answers the word that it carries. Refused for 11 to 16. After 16 the same start is accepted once those that it waits for have finished. */
-taskiter_answer taskiter_start(const uint64_t *plan, size_t plan_length, TASKITER_COUNT_TYPE *counts, size_t counts_length, uint64_t *values, size_t values_length,
-                               uint64_t item);
+   taskiter_items puts a number n for each item into a slice of at least TASKITER_MAX_ITEMS, and
+   answers how many items there are. The item's rank is n / 512, its kind n / 128 % 4: 0 a task, 1 a
+   send, 2 a receive. n % 128 is the task's number, or the region that is sent. Items are numbered
+   from 0: each task, then its sends, each with its receive right behind it.
+   taskiter_edges puts from, to and distance of each edge into a slice of at least
+   TASKITER_EDGE_NUMBERS, in that order, and answers how many edges there are. An item waits for the
+   source of each edge into it: at distance 0 in the same pass, at distance 1 in the pass before.
+   What lies behind the last number is left as it is. Refused for 11 or 12, with number 0 and
+   nothing changed. */
+taskiter_number taskiter_items(const uint64_t *plan, size_t plan_length, uint16_t *items,
+                               size_t items_length);
+taskiter_number taskiter_edges(const uint64_t *plan, size_t plan_length, uint32_t *edges,
+                               size_t edges_length);
 
-/* Finishes the pass that an item is in: the word held goes to the places that the item writes, and is answered once more. Refused for 11, 12,
-   13 or 17. */
-taskiter_answer taskiter_finish(const uint64_t *plan, size_t plan_length, TASKITER_COUNT_TYPE *counts, size_t counts_length, uint64_t *values, size_t values_length,
-                                uint64_t item);
+/* Opens a state for the plan: every copy gets its starting value, and counts, slots and held words
+   become 0. What the plan does not use of the state is left as it is. Answers the refusal, 11 or 12
+   (of the plan alone), or 0. A state may be opened again at any time. */
+uint64_t taskiter_open(const uint64_t *plan, size_t plan_length, TASKITER_COUNT_TYPE *counts,
+                       size_t counts_length, uint64_t *values, size_t values_length);
 
-/* The result of a region, once every item has finished every pass; of a region that no task writes, its starting value. Refused for 11, 12, 13
-   or 18. */
-taskiter_answer taskiter_result(const uint64_t *plan, size_t plan_length, const TASKITER_COUNT_TYPE *counts, size_t counts_length, const uint64_t *values,
-                                size_t values_length, uint64_t region);
+/* Starts the next pass of an item: it reads its places, and answers the word that it computes,
+   which it holds for the finish. A send or receive answers the word that it carries. Refused for 11
+   to 16. After 16 the same start is accepted once those that it waits for have finished. */
+taskiter_answer taskiter_start(const uint64_t *plan, size_t plan_length,
+                               TASKITER_COUNT_TYPE *counts, size_t counts_length, uint64_t *values,
+                               size_t values_length, uint64_t item);
+
+/* Finishes the pass that an item is in: the word held goes to the places that the item writes, and
+   is answered once more. Refused for 11, 12, 13 or 17. */
+taskiter_answer taskiter_finish(const uint64_t *plan, size_t plan_length,
+                                TASKITER_COUNT_TYPE *counts, size_t counts_length, uint64_t *values,
+                                size_t values_length, uint64_t item);
+
+/* The result of a region, once every item has finished every pass; of a region that no task writes,
+   its starting value. Refused for 11, 12, 13 or 18. */
+taskiter_answer taskiter_result(const uint64_t *plan, size_t plan_length,
+                                const TASKITER_COUNT_TYPE *counts, size_t counts_length,
+                                const uint64_t *values, size_t values_length, uint64_t region);
+
+/* A call of a list, in one word. Numbers from 6,148,914,691,236,517,205 on have no such word; no
+   plan has one that large. */
+#define TASKITER_CALL_START(item) (3 * (uint64_t)(item))
+#define TASKITER_CALL_FINISH(item) (3 * (uint64_t)(item) + 1)
+#define TASKITER_CALL_RESULT(region) (3 * (uint64_t)(region) + 2)
+
+/* Makes a list of calls, one after another, each on the state that the one before left. Call k of
+   the list puts its refusal into answers[2 * k] and its word into answers[2 * k + 1]: just what
+   taskiter_start, taskiter_finish and taskiter_result answer, 12 and the other refusals too. A
+   refused call does not end the list. What lies behind the last answer is left as it is.
+   Answers 11, with nothing changed, where a slice is too short: plan, counts, values, or answers
+   with fewer than two words for each call. Else 0. An empty list may be (NULL, 0), and its answers
+   too. */
+uint64_t taskiter_play(const uint64_t *plan, size_t plan_length, TASKITER_COUNT_TYPE *counts,
+                       size_t counts_length, uint64_t *values, size_t values_length,
+                       const uint64_t *calls, size_t calls_length, uint64_t *answers,
+                       size_t answers_length);
+
+/* The runtime is proved for slices that point somewhere, and (NULL, 0) does not. Where a slice may
+   be empty these two lend a word of their own instead; the macros below put them in place. A name
+   in parentheses, (taskiter_read)(...), calls the runtime itself. */
+static inline taskiter_reading taskiter_read_slice(const uint8_t *text, size_t text_length,
+                                                   uint64_t *plan, size_t plan_length) {
+    static const uint8_t none = 0;
+    return taskiter_read(text != NULL || text_length > 0 ? text : &none, text_length, plan,
+                         plan_length);
+}
+
+static inline uint64_t taskiter_play_slices(const uint64_t *plan, size_t plan_length,
+                                            TASKITER_COUNT_TYPE *counts, size_t counts_length,
+                                            uint64_t *values, size_t values_length,
+                                            const uint64_t *calls, size_t calls_length,
+                                            uint64_t *answers, size_t answers_length) {
+    uint64_t none[2] = {0, 0};
+    return taskiter_play(plan, plan_length, counts, counts_length, values, values_length,
+                         calls != NULL || calls_length > 0 ? calls : &none[0], calls_length,
+                         answers != NULL || answers_length > 0 ? answers : &none[1],
+                         answers_length);
+}
+
+#define taskiter_read(...) taskiter_read_slice(__VA_ARGS__)
+#define taskiter_play(...) taskiter_play_slices(__VA_ARGS__)
 
 #ifdef __cplusplus
 }

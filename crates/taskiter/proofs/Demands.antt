@@ -33,6 +33,8 @@ use Rattle.taskiter.specs.Demands.{FitTold, TextRead, PlanReady, Steps, 
 use Rattle.taskiter.proofs.AnyOrder.{in-any-order}
 use Rattle.taskiter.proofs.Unread.{unread}
 use Rattle.taskiter.proofs.Readiness.{ready-long, ready-form, ready-clear, counts-ready, form-ready, clear-ready}
+use Rattle.taskiter.proofs.Giving.{items-given, edges-given}
+use Rattle.taskiter.proofs.Replying.{call-word, word-call, in-words, play-refused, play-given}
 use Rattle.taskiter.proofs.Numbering.{numbers, open-made, result-made, room, held-apart, own-rank}
 
 -- demand 1
@@ -100,6 +102,7 @@ demand-1 =
       reading = text-read;
       opening = λ plan counts values. record { short = open-short plan counts values; changes-nothing = open-unchanged plan counts values };
       steps = λ plan s c. record { short = every-short plan s c; changes-nothing = every-unchanged plan s c };
+      playing = play-refused;
     }
 
 -- demand 2
@@ -145,7 +148,7 @@ module _ (plan counts values : List ℕ) (words : (i : ℕ) → getD plan i 0 �
       }
 
 demand-2 : Demand2
-demand-2 = record { steps = steps; unread = unread }
+demand-2 = record { items = items-given; edges = edges-given; steps = steps; unread = unread }
 
 -- demand 3
 
@@ -162,6 +165,8 @@ opened-order text w behind counts values e long-counts long-values =
       every-list = o .1;
       stays-ready = λ l. let s = play (w ++ behind) (lentBy (openOf (w ++ behind) counts values)) l in
           counts-ready (w ++ behind) (s .counts) (s .values) (read-ready (s .counts) (s .values) size (o .2 l)) (o .2 l .formed-counts);
+      played = λ before calls answers r counts′ values′ answers′ room P.
+          play-given (bodyOf w) (w ++ behind) (lentBy (openOf (w ++ behind) counts values)) (o .1) before calls answers (o .2 before .long) room r counts′ values′ answers′ P;
     }
   where
     read-ready : (c v : List ℕ) → length w ≡ planWords → Clear (w ++ behind) c v → PlanReady (w ++ behind) c v
@@ -170,7 +175,7 @@ opened-order text w behind counts values e long-counts long-values =
         record { long-plan = l .0; long-counts = l .1; long-values = l .2; read = (text, e ∙ ap readTo (sym (take-at w behind planWords size))) }
 
 demand-3 : Demand3
-demand-3 = record { any-order = opened-order }
+demand-3 = record { any-order = opened-order; word-of = call-word; call-of = word-call; in-words = in-words }
 
 pub demands : Demands
 demands = record { demand-1 = demand-1; demand-2 = demand-2; demand-3 = demand-3 }

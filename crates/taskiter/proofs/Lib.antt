@@ -1,6 +1,10 @@
 pub mod AnyOrder
 pub mod Unread
 pub mod Readiness
+pub mod Parts
+pub mod Giving
+pub mod Playing
+pub mod Replying
 pub mod Numbering
 pub mod Demands
 pub mod Exported

@@ -14,14 +14,34 @@ use Rattle.reading.proofs.Theorems.{laws as reading-laws}
 use Rattle.graph.specs.Answers.{formedPlan}
 use Rattle.steps.specs.Answers.{longSlices, formedCounts}
 use Rattle.steps.proofs.Accepting.{long-slices, formed-counts, Clear}
+use Rattle.taskiter.specs.Given.{FromText}
 use Rattle.taskiter.specs.Demands.{PlanReady, Ready}
+
+-- a plan in form, and a plan that some text is read to
+
+pub read-formed : (plan : List ℕ) → FromText plan → formedPlan plan ≡ true
+read-formed plan t = reading-laws .in-form (t .0) (take planWords plan) (t .1)
+
+module _ (plan : List ℕ) (words : (i : ℕ) → getD plan i 0 ≤ maxWord) (long : planWords ≤ length plan) where
+  cut-words : Words (take planWords plan)
+  cut-words = record { size = length-take-le planWords plan long; fits = each }
+    where
+      each : (i : ℕ) → at (take planWords plan) i ≤ maxWord
+      each i =
+          elim (decLt i planWords) [
+            | yes l ↦ omega (arith, words i, getD-take planWords plan i 0 l)
+            | no l ↦ omega (arith, List·getD-eq-default (take planWords plan) 0 {n = i} (let m : length (take planWords plan) ≤ i = omega (arith, length-take-le planWords plan long) in m))
+          ]
+
+  pub formed-read : formedPlan plan ≡ true → FromText plan
+  formed-read = reading-laws .exactly (take planWords plan) cut-words .0
 
 module _ (plan counts values : List ℕ) where
   pub ready-long : PlanReady plan counts values → longSlices plan counts values ≡ true
   ready-long R = long-slices plan counts values .1 (R .long-plan, R .long-counts, R .long-values)
 
   pub ready-form : PlanReady plan counts values → formedPlan plan ≡ true
-  ready-form R = reading-laws .in-form (R .read .0) (take planWords plan) (R .read .1)
+  ready-form R = read-formed plan (R .read)
 
   pub ready-clear : Ready plan counts values → Clear plan counts values
   ready-clear R =
@@ -39,20 +59,10 @@ module _ (plan counts values : List ℕ) where
       }
 
   module _ (words : (i : ℕ) → getD plan i 0 ≤ maxWord) where
-    cut-words : planWords ≤ length plan → Words (take planWords plan)
-    cut-words long = record { size = length-take-le planWords plan long; fits = each }
-      where
-        each : (i : ℕ) → at (take planWords plan) i ≤ maxWord
-        each i =
-            elim (decLt i planWords) [
-              | yes l ↦ omega (arith, words i, getD-take planWords plan i 0 l)
-              | no l ↦ omega (arith, List·getD-eq-default (take planWords plan) 0 {n = i} (let m : length (take planWords plan) ≤ i = omega (arith, length-take-le planWords plan long) in m))
-            ]
-
     pub form-ready : longSlices plan counts values ≡ true → formedPlan plan ≡ true → PlanReady plan counts values
     form-ready l f =
         let k = long-slices plan counts values .0 l in
-        record { long-plan = k .0; long-counts = k .1; long-values = k .2; read = reading-laws .exactly (take planWords plan) (cut-words (k .0)) .0 f }
+        record { long-plan = k .0; long-counts = k .1; long-values = k .2; read = formed-read plan words (k .0) f }
 
     pub clear-ready : Clear plan counts values → Ready plan counts values
     clear-ready c = counts-ready (form-ready (c .long) (c .formed-plan)) (c .formed-counts)

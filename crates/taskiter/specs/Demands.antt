@@ -1,11 +1,11 @@
--- The three demands on the runtime, stated over the definitions that its functions are equated with: `readOf` of the crate reading, by `Reads`,
--- and `openOf`, `startOf`, `finishOf`, `resultOf` of the crate steps. Proved in proofs/Demands.antt. That nothing undefined is done and every
--- call ends is the check of the code itself.
+-- The three demands on the runtime, stated over the contracts of its functions (src/lib.rt): the definitions that they are equated with, `openOf`,
+-- `startOf`, `finishOf`, `resultOf` of the crate steps, and the records that hold of their answers, `Reads`, `ItemsAnswer`, `EdgesAnswer` and
+-- `Played`. Proved in proofs/Demands.antt. That nothing undefined is done and every call ends is the check of the code itself.
 use Prim.Native.Nat.{ℕ, suc, _+_, _*_, _≤_, _<_}
 use mathlib.Core.Path.{_≡_}
 use mathlib.Core.Bool.{true, false, cond}
 use mathlib.Core.Logic.{_↔_, _⊎_}
-use mathlib.Core.List.{List, [], _∷_, _++_}
+use mathlib.Core.List.{List, [], _∷_, _++_, List·Memᴰ as In}
 use lib.Dec.{leb}
 use lib.ListN.{length, getD, set, take, drop, replicate}
 use Rattle.finite.specs.Lists.{mem}
@@ -32,10 +32,13 @@ use Rattle.reading.specs.Refusals.{Fit, fit, noFit, fitFrom}
 use Rattle.reading.specs.Laws.{Says, Holds}
 use Rattle.reader.specs.declared.Answer.{Answer}
 use Rattle.reader.specs.Answer.{Reads}
-use Rattle.graph.specs.Answers.{planBody}
+use Rattle.graph.specs.declared.Number.{Number}
+use Rattle.graph.specs.Answers.{planBody, ItemsAnswer, EdgesAnswer}
 use Rattle.steps.specs.State.{countWords, valueWords, firstFinished, firstHeld, stateOf}
 use Rattle.steps.specs.Answers.{Left, openOf, startOf, finishOf, resultOf}
 use Rattle.steps.specs.Calls.{Call, start, finish, result, isStart, isFinish, isStep, Lent, lent, lentBy, call, play, replies, accepted}
+use Rattle.taskiter.specs.Given.{FromText, ItemsGiven, EdgesGiven}
+use Rattle.taskiter.specs.Played.{callOf, callsOf, ahead, wordOf, numberOf, callNumbers, Played}
 
 -- Demand 1. Every text, every lent buffer and every call gets an answer; a bad text, and no other, gets a refusal number and a line.
 
@@ -68,10 +71,18 @@ pub record CallRefused (plan counts values : List ℕ) (r : Left) : Type 0 where
   pub short : Short plan counts values → r .refusal ≡ 11
   pub changes-nothing : (r .refusal ≡ 0 → ⊥) → (r .word ≡ 0) × (r .counts ≡ counts) × (r .values ≡ values)
 
+-- what a list of calls gets, with answers for two words a call: 11 where a slice is too short, and then nothing is changed; else 0
+pub record PlayRefused (plan counts values calls answers : List ℕ) (r : ℕ) (counts′ values′ answers′ : List ℕ) : Type 0 where
+  pub short : (r ≡ 11) ↔ (Short plan counts values ⊎ (length answers < 2 * length calls))
+  pub changes-nothing : r ≡ 11 → (counts′ ≡ counts) × (values′ ≡ values) × (answers′ ≡ answers)
+  pub else-0 : (r ≡ 11 → ⊥) → r ≡ 0
+
 pub record Demand1 : Type 0 where
   pub reading : (text plan : List ℕ) (r : Answer) (left : List ℕ) → Reads text plan r left → TextRead text plan r left
   pub opening : (plan counts values : List ℕ) → CallRefused plan counts values (openOf plan counts values)
   pub steps : (plan : List ℕ) (s : Lent) (c : Call) → CallRefused plan (s .counts) (s .values) (call plan s c)
+  pub playing : (plan counts values calls answers : List ℕ) (r : ℕ) (counts′ values′ answers′ : List ℕ) →
+      Played plan counts values calls answers r counts′ values′ answers′ → PlayRefused plan counts values calls answers r counts′ values′ answers′
 
 -- Demand 2. The graph is the published rule's, and steps are accepted exactly by it.
 
@@ -85,7 +96,7 @@ pub record PlanReady (plan counts values : List ℕ) : Type 0 where
   pub long-plan : planWords ≤ length plan
   pub long-counts : countWords ≤ length counts
   pub long-values : valueWords ≤ length values
-  pub read : (text : List ℕ) × (readOf text ≡ readTo (take planWords plan))
+  pub read : FromText plan
 
 -- besides, the counts of every item are in form: neither 11 nor 12 is given
 pub record Ready (plan counts values : List ℕ) : Type 0 where
@@ -196,6 +207,11 @@ pub record Steps (plan counts values : List ℕ) : Type 0 where
   pub shown : (g : ℕ) → resultOf plan counts values g .refusal ≡ 0 → ResultMade (planBody plan) counts values g (resultOf plan counts values g)
 
 pub record Demand2 : Type 0 where
+  -- the graph that C gets, from the contracts of `taskiter_items` and `taskiter_edges`
+  pub items : (plan table : List ℕ) (r : Number) (table′ : List ℕ) → ((i : ℕ) → getD plan i 0 ≤ maxWord) →
+      ItemsAnswer plan table r table′ → ItemsGiven plan table r table′
+  pub edges : (plan list : List ℕ) (r : Number) (list′ : List ℕ) → ((i : ℕ) → getD plan i 0 ≤ maxWord) →
+      EdgesAnswer plan list r list′ → EdgesGiven plan list r list′
   pub steps : (plan counts values : List ℕ) → ((i : ℕ) → getD plan i 0 ≤ maxWord) → Steps plan counts values
   -- what lies behind the sizes, and state that the plan does not use, is not read
   pub unread : (plan plan′ : List ℕ) (s t : Lent) (c : Call) → take planWords plan ≡ take planWords plan′ →
@@ -244,6 +260,24 @@ module _ (B : Body) (plan : List ℕ) (s : Lent) where
     pub accepts-results : (g : ℕ) → g < B .regions → AtEnd l ↔ (callAfter l (result g) .refusal ≡ 0)
     pub final : (g : ℕ) → callAfter l (result g) .refusal ≡ 0 → callAfter l (result g) .word ≡ loopFinal B g
 
+  -- what C gets from `taskiter_play` for the words `calls`, after the calls `before`
+  pub record PlayGiven (before : List Call) (calls answers : List ℕ) (r : ℕ) (counts′ values′ answers′ : List ℕ) : Type 0 where
+    pub accepted : r ≡ 0
+    -- words 2 k and 2 k + 1 of the answers are what call k answers, made after the calls ahead of it; words behind stay
+    pub refusal : (k : ℕ) → k < length calls → getD answers′ (2 * k) 0 ≡ callAfter (ahead before calls k) (callOf (getD calls k 0)) .refusal
+    pub word : (k : ℕ) → k < length calls → getD answers′ (2 * k + 1) 0 ≡ callAfter (ahead before calls k) (callOf (getD calls k 0)) .word
+    pub behind : (length answers′ ≡ length answers) × ((i : ℕ) → 2 * length calls ≤ i → getD answers′ i 0 ≡ getD answers i 0)
+    -- so where word 2 k is 0, word 2 k + 1 is the number of the unrolled loop
+    pub started : (k a : ℕ) → k < length calls → getD calls k 0 ≡ wordOf (start a) → getD answers′ (2 * k) 0 ≡ 0 →
+        getD answers′ (2 * k + 1) 0 ≡ loopWord B (startsOf a (ahead before calls k)) (writer (itemAt B a))
+    pub finished : (k a : ℕ) → k < length calls → getD calls k 0 ≡ wordOf (finish a) → getD answers′ (2 * k) 0 ≡ 0 →
+        getD answers′ (2 * k + 1) 0 ≡ loopWord B (finishesOf a (ahead before calls k)) (writer (itemAt B a))
+    pub shown : (k g : ℕ) → k < length calls → getD calls k 0 ≡ wordOf (result g) → getD answers′ (2 * k) 0 ≡ 0 →
+        AtEnd (ahead before calls k) × (getD answers′ (2 * k + 1) 0 ≡ loopFinal B g)
+    -- the state at exit is the one after all these calls, and all that is said of lists of calls holds of them
+    pub state : lent counts′ values′ ≡ play plan s (before ++ callsOf calls)
+    pub in-any-order : InAnyOrder (before ++ callsOf calls)
+
 -- an accepted text, its words w in a lent plan, and lent counts and values
 pub record Opened (text w plan counts values : List ℕ) : Type 0 where
   pub size : length w ≡ planWords
@@ -253,10 +287,20 @@ pub record Opened (text w plan counts values : List ℕ) : Type 0 where
   pub every-list : (l : List Call) → InAnyOrder (bodyOf w) plan (lentBy (openOf plan counts values)) l
   -- after every list plan and state are such that neither 11 nor 12 is given
   pub stays-ready : (l : List Call) → let s = play plan (lentBy (openOf plan counts values)) l in Ready plan (s .counts) (s .values)
+  -- what C gets from `taskiter_play`, whose contract is `Played`, on the state that the opening and any calls since have left, with answers for
+  -- two words a call
+  pub played : (before : List Call) (calls answers : List ℕ) (r : ℕ) (counts′ values′ answers′ : List ℕ) → 2 * length calls ≤ length answers →
+      let s = play plan (lentBy (openOf plan counts values)) before in Played plan (s .counts) (s .values) calls answers r counts′ values′ answers′ →
+      PlayGiven (bodyOf w) plan (lentBy (openOf plan counts values)) before calls answers r counts′ values′ answers′
 
 pub record Demand3 : Type 0 where
   pub any-order : (text w behind counts values : List ℕ) → readOf text ≡ readTo w → countWords ≤ length counts → valueWords ≤ length values →
       Opened text w (w ++ behind) counts values
+  -- words and calls are one to one, and 64-bit words say every list of calls with numbers below `callNumbers`: no such list is out of reach
+  pub word-of : (c : Call) → callOf (wordOf c) ≡ c
+  pub call-of : (word : ℕ) → wordOf (callOf word) ≡ word
+  pub in-words : (l : List Call) → ((c : Call) → In c l → numberOf c < callNumbers) →
+      (calls : List ℕ) × (callsOf calls ≡ l) × ((i : ℕ) → getD calls i 0 ≤ maxWord)
 
 pub record Demands : Type 0 where
   pub demand-1 : Demand1

@@ -1,3 +1,5 @@
+pub mod Given
+pub mod Played
 pub mod Demands
 pub mod Run
 pub mod Shown

@@ -1,11 +1,13 @@
-// The runtime, as a C host calls it: reading, opening, start, finish and result on lent slices, and
-// the graph besides (include/taskiter.h). A call looks at the plan and the state that it is lent,
-// and keeps nothing between calls.
+// The runtime, as a C host calls it: reading, opening, start, finish and result on lent slices, lists
+// of these, and the graph besides (include/taskiter.h). A call looks at the plan and the state that
+// it is lent, and keeps nothing between calls.
 ghost use mathlib.Core.Path.{_≡_};
 ghost use Rattle.reader.specs.Answer.{Reads};
 ghost use Rattle.graph.specs.Answers.{ItemsAnswer, EdgesAnswer};
 ghost use Rattle.steps.specs.Answers.{openOf, startOf, finishOf, resultOf};
+ghost use Rattle.steps.specs.Calls.{lent, call};
 ghost use Rattle.calls.specs.Told.{told, toldOpening};
+ghost use Rattle.taskiter.specs.Played.{callOf, Played};
 ghost use Rattle.taskiter.specs.Shown.{Shown};
 use calls::Answer;
 use calls::doors::enter_plan;
@@ -187,6 +189,48 @@ pub extern "C" fn taskiter_result(
         values,
         region,
     )
+}
+
+// The call that a word says: 3 × its number, and 0 for a start, 1 for a finish, 2 for a result.
+fn play_one(plan: &[u64], counts: &mut [Count], values: &mut [u64], word: u64) -> Answer
+    ensures { λ r. ⌜
+        told r (now (counts .exit)) (now (values .exit)) ≡ call (now (plan .entry)) (lent (now (counts .entry)) (now (values .entry))) (callOf word)
+        ⌝ }
+{
+    let number = word / 3;
+    match word % 3 {
+        0 => taskiter_start(plan, counts, values, number),
+        1 => taskiter_finish(plan, counts, values, number),
+        _ => taskiter_result(plan, counts, values, number),
+    }
+}
+
+// Plays a list of calls, each on the state that the one before left: two words of the answers for
+// each, its refusal and its word. Answers 11 where a slice is too short, else 0.
+#[no_mangle]
+pub extern "C" fn taskiter_play(
+    plan: &[u64],
+    counts: &mut [Count],
+    values: &mut [u64],
+    calls: &[u64],
+    answers: &mut [u64],
+) -> u64
+    ensures { λ r. ⌜
+        Played (now (plan .entry)) (now (counts .entry)) (now (values .entry)) (now (calls .entry)) (now (answers .entry)) r
+        (now (counts .exit)) (now (values .exit)) (now (answers .exit))
+        ⌝ }
+{
+    if is_short(plan.len(), counts.len(), values.len()) | (answers.len() / 2 < calls.len()) {
+        return 11;
+    }
+    let mut k: usize = 0;
+    while k < calls.len() {
+        let answer = play_one(plan, counts, values, calls[k]);
+        answers[2 * k] = answer.refusal;
+        answers[2 * k + 1] = answer.word;
+        k += 1;
+    }
+    0
 }
 
 // What a run answers: refusal 0, and how many items, edges and steps there were; or a refusal, and

@@ -3,39 +3,30 @@ use Prim.Native.Nat.{ℕ}
 use mathlib.Core.List.{List, [], _∷_}
 use mathlib.Core.Bool.{Bool, true, false, cond, _&&_}
 use lib.Dec.{eqb}
+use Rattle.text.specs.Ascii.{ascii}
 use Rattle.text.specs.declared.Keyword.{Keyword}
 use Rattle.text.specs.declared.Keyword.the-variants.{Loop, Start, Begin, In, Out, Inout, End, Unknown}
 
--- the words as bytes, in ASCII: a is 97, b 98, d 100, e 101, g 103, i 105, l 108, n 110, o 111, p
--- 112, r 114, s 115, t 116, u 117
-
--- `loop`
 abbrev pub wordLoop : List ℕ
-wordLoop = 108 ∷ 111 ∷ 111 ∷ 112 ∷ []
+wordLoop = ascii "loop"
 
--- `start`
 abbrev pub wordStart : List ℕ
-wordStart = 115 ∷ 116 ∷ 97 ∷ 114 ∷ 116 ∷ []
+wordStart = ascii "start"
 
--- `begin`
 abbrev pub wordBegin : List ℕ
-wordBegin = 98 ∷ 101 ∷ 103 ∷ 105 ∷ 110 ∷ []
+wordBegin = ascii "begin"
 
--- `in`
 abbrev pub wordIn : List ℕ
-wordIn = 105 ∷ 110 ∷ []
+wordIn = ascii "in"
 
--- `out`
 abbrev pub wordOut : List ℕ
-wordOut = 111 ∷ 117 ∷ 116 ∷ []
+wordOut = ascii "out"
 
--- `inout`
 abbrev pub wordInout : List ℕ
-wordInout = 105 ∷ 110 ∷ 111 ∷ 117 ∷ 116 ∷ []
+wordInout = ascii "inout"
 
--- `end`
 abbrev pub wordEnd : List ℕ
-wordEnd = 101 ∷ 110 ∷ 100 ∷ []
+wordEnd = ascii "end"
 
 -- the same bytes
 abbrev pub alike : List ℕ → List ℕ → Bool

@@ -27,17 +27,17 @@ use Rattle.steps.specs.Answers.{openOf}
 use Rattle.steps.specs.Calls.{Call, start, finish, result, isStep, Lent, lentBy, call, play, accepted}
 use Rattle.taskiter.specs.Demands.{of-start, of-finish, Ready, Opened, OpenMade, Steps, AtEnd, InAnyOrder, Demands}
 use Rattle.taskiter.proofs.Demands.{demands}
-use Rattle.tried.specs.Table.{example, exampleWords, Fresh, Accepts, after, Table}
+use Rattle.tried.specs.Table.{example, exampleWords, noPass, Fresh, Accepts, after, Table}
 use Rattle.tried.proofs.Read.{example-read, no-pass-read, readers-read, second-begin, named-twice}
 use Rattle.tried.proofs.Drawn.{example-items, final-two, final-none, first-word}
 
 module _ (D : Demands) where
   -- what the demands say of a fresh state of the example with p passes
-  module _ (p : ℕ) (read : readOf (example p) ≡ readTo (exampleWords p)) (plan : List ℕ) (s : Lent) (F : Fresh p plan s) where
-    run : Opened (example p) (exampleWords p) plan (F .counts) (F .values)
+  module _ (p : ℕ) (text : List ℕ) (read : readOf text ≡ readTo (exampleWords p)) (plan : List ℕ) (s : Lent) (F : Fresh p plan s) where
+    run : Opened text (exampleWords p) plan (F .counts) (F .values)
     run =
-        subst (λ (q : List ℕ). Opened (example p) (exampleWords p) q (F .counts) (F .values)) (sym (F .holds))
-        (D .demand-3 .any-order (example p) (exampleWords p) (F .behind) (F .counts) (F .values) read (F .long-counts) (F .long-values))
+        subst (λ (q : List ℕ). Opened text (exampleWords p) q (F .counts) (F .values)) (sym (F .holds))
+        (D .demand-3 .any-order text (exampleWords p) (F .behind) (F .counts) (F .values) read (F .long-counts) (F .long-values))
 
     order : (l : List Call) → InAnyOrder (bodyOf (exampleWords p)) plan s l
     order l = subst (λ (t : Lent). InAnyOrder (bodyOf (exampleWords p)) plan t l) (sym (F .opened)) (run .every-list l)
@@ -90,37 +90,37 @@ module _ (D : Demands) where
     case-b : (l : List Call) → after plan s l (result 0) .refusal ≡ 0 →
         (accepted plan isStep s l ≡ 16) × Accepts (after plan s l (result 0)) 7 × Accepts (after plan s l (result 1)) 13
     case-b l h =
-        let e = at-end 2 example-read plan s F l h in
-        let r = finals 2 example-read plan s F l e 7 13 (final-two .0) (final-two .1) in
-        (all-steps 2 example-read plan s F l e, r .0, r .1)
+        let e = at-end 2 example example-read plan s F l h in
+        let r = finals 2 example example-read plan s F l e 7 13 (final-two .0) (final-two .1) in
+        (all-steps 2 example example-read plan s F l e, r .0, r .1)
 
     reaches-b : (l : List Call) × (after plan s l (result 0) .refusal ≡ 0)
     reaches-b =
-        let k = order 2 example-read plan s F [] .leads-on in
-        (k .0, order 2 example-read plan s F (k .0) .accepts-results 0 (omega arith) .0 (k .2))
+        let k = order 2 example example-read plan s F [] .leads-on in
+        (k .0, order 2 example example-read plan s F (k .0) .accepts-results 0 (omega arith) .0 (k .2))
 
     R : Ready plan (s .counts) (s .values)
-    R = fresh-ready 2 example-read plan s F
+    R = fresh-ready 2 example example-read plan s F
 
     four : itemCount (planBody plan) ≡ 4
-    four = items-four 2 example-read plan s F
+    four = items-four 2 example example-read plan s F
 
     two : planBody plan .passes ≡ 2
-    two = passes-are 2 example-read plan s F
+    two = passes-are 2 example example-read plan s F
 
     started : (a : ℕ) → a < 4 → getD (s .counts) a 0 ≡ 0
-    started = none-started 2 example-read plan s F
+    started = none-started 2 example example-read plan s F
 
     finished : (a : ℕ) → a < 4 → getD (s .counts) (firstFinished + a) 0 ≡ 0
-    finished = none-finished 2 example-read plan s F
+    finished = none-finished 2 example example-read plan s F
 
     -- item 3 waits for item 2
     edge-2-3 : Edge (system (planBody plan)) 2 3 0
-    edge-2-3 = subst (λ (B : Body). Edge (system B) 2 3 0) (sym (body-is 2 example-read plan s F)) (two-ranks-edges .exactly 2 3 0 .0 (at-in (2, 3, 0) (0, 0, 0) tenEdges 7 (omega arith) refl))
+    edge-2-3 = subst (λ (B : Body). Edge (system B) 2 3 0) (sym (body-is 2 example example-read plan s F)) (two-ranks-edges .exactly 2 3 0 .0 (at-in (2, 3, 0) (0, 0, 0) tenEdges 7 (omega arith) refl))
 
     case-h : (call plan s (start 3) .refusal ≡ 16) × (call plan s (finish 0) .refusal ≡ 17) × (call plan s (result 0) .refusal ≡ 18)
     case-h =
-        let N = steps 2 example-read plan s F s .numbers in (
+        let N = steps 2 example example-read plan s F s .numbers in (
           N .start-16 3 .1 (
             R,
             omega (arith, four),
@@ -131,7 +131,7 @@ module _ (D : Demands) where
           N .finish-17 0 .1 (R, omega (arith, four), started 0 (omega arith) ∙ sym (finished 0 (omega arith))),
           N .result-18 0 .1 (
             R,
-            subst (λ (B : Body). 0 < B .regions) (sym (body-is 2 example-read plan s F)) (omega arith),
+            subst (λ (B : Body). 0 < B .regions) (sym (body-is 2 example example-read plan s F)) (omega arith),
             λ c. let z = c 0 (omega (arith, four)) in omega (arith, z, two, finished 0 (omega arith)),
           ),
         )
@@ -164,32 +164,32 @@ module _ (D : Demands) where
     case-i : Accepts (call plan s (start 0)) 6 × (after plan s (start 0 ∷ []) (start 0) .refusal ≡ 15)
     unfolding play accepted
     case-i =
-        let h = steps 2 example-read plan s F s .starts 0 .1 (R, rule-0) in
-        let m = steps 2 example-read plan s F s .started 0 h in
+        let h = steps 2 example example-read plan s F s .starts 0 .1 (R, rule-0) in
+        let m = steps 2 example example-read plan s F s .started 0 h in
         let t : Lent = lentBy (call plan s (start 0)) in (
-          record { refusal = h; word = order 2 example-read plan s F (start 0 ∷ []) .starts [] [] 0 refl h .2 ∙ word-0 },
-          steps 2 example-read plan s F t .numbers .start-15 0 .1 (ready 2 example-read plan s F (start 0 ∷ []), omega (arith, four), one-started (call plan s (start 0) .counts) (m .counted)),
+          record { refusal = h; word = order 2 example example-read plan s F (start 0 ∷ []) .starts [] [] 0 refl h .2 ∙ word-0 },
+          steps 2 example example-read plan s F t .numbers .start-15 0 .1 (ready 2 example example-read plan s F (start 0 ∷ []), omega (arith, four), one-started (call plan s (start 0) .counts) (m .counted)),
         )
 
   -- no pass
   module _ (plan : List ℕ) (s : Lent) (F : Fresh 0 plan s) where
     ended : (l : List Call) → AtEnd (bodyOf (exampleWords 0)) plan s l
     ended l a below =
-        let c = order 0 no-pass-read plan s F l .counted a below .1 in
-        let k : a < itemCount (planBody plan) = subst (λ (B : Body). a < itemCount B) (sym (body-is 0 no-pass-read plan s F)) below in
-        let r : getD (play plan s l .counts) (firstFinished + a) 0 ≤ planBody plan .passes = ready 0 no-pass-read plan s F l .counts-formed a k .finished in
-        sym c ∙ (let z : getD (play plan s l .counts) (firstFinished + a) 0 ≡ 0 = omega (arith, r, passes-are 0 no-pass-read plan s F) in z)
+        let c = order 0 noPass no-pass-read plan s F l .counted a below .1 in
+        let k : a < itemCount (planBody plan) = subst (λ (B : Body). a < itemCount B) (sym (body-is 0 noPass no-pass-read plan s F)) below in
+        let r : getD (play plan s l .counts) (firstFinished + a) 0 ≤ planBody plan .passes = ready 0 noPass no-pass-read plan s F l .counts-formed a k .finished in
+        sym c ∙ (let z : getD (play plan s l .counts) (firstFinished + a) 0 ≡ 0 = omega (arith, r, passes-are 0 noPass no-pass-read plan s F) in z)
 
     case-c : (l : List Call) →
         Accepts (after plan s l (result 0)) 5 × Accepts (after plan s l (result 1)) 0 × (accepted plan isStep s l ≡ 0)
         × (after plan s l (start 0) .refusal ≡ 14)
     case-c l =
-        let four : 0 < itemCount (planBody plan) = omega (arith, items-four 0 no-pass-read plan s F) in
-        let e : 0 < itemCount (bodyOf (exampleWords 0)) = subst (λ (B : Body). 0 < itemCount B) (body-is 0 no-pass-read plan s F) four in
+        let four : 0 < itemCount (planBody plan) = omega (arith, items-four 0 noPass no-pass-read plan s F) in
+        let e : 0 < itemCount (bodyOf (exampleWords 0)) = subst (λ (B : Body). 0 < itemCount B) (body-is 0 noPass no-pass-read plan s F) four in
         let done : getD (play plan s l .counts) (firstFinished + 0) 0 ≡ planBody plan .passes =
-        order 0 no-pass-read plan s F l .counted 0 e .1 ∙ (ended l 0 e ∙ sym (passes-are 0 no-pass-read plan s F)) in
-        let r = finals 0 no-pass-read plan s F l (ended l) 5 0 (final-none .0) (final-none .1) in
-        (r .0, r .1, all-steps 0 no-pass-read plan s F l (ended l), steps 0 no-pass-read plan s F (play plan s l) .numbers .start-14 0 .1 (ready 0 no-pass-read plan s F l, four, done))
+        order 0 noPass no-pass-read plan s F l .counted 0 e .1 ∙ (ended l 0 e ∙ sym (passes-are 0 noPass no-pass-read plan s F)) in
+        let r = finals 0 noPass no-pass-read plan s F l (ended l) 5 0 (final-none .0) (final-none .1) in
+        (r .0, r .1, all-steps 0 noPass no-pass-read plan s F l (ended l), steps 0 noPass no-pass-read plan s F (play plan s l) .numbers .start-14 0 .1 (ready 0 noPass no-pass-read plan s F l, four, done))
 
   from-demands : Table
   from-demands =

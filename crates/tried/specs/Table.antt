@@ -8,44 +8,22 @@ use Rattle.body.specs.TwoRanks.{tenEdges}
 use Rattle.edges.specs.Rule.{AllEdges}
 use Rattle.plan.specs.Limits.{maxWord}
 use Rattle.plan.specs.Layout.{bodyOf}
-use Rattle.text.specs.declared.Number.the-variants.{Value}
-use Rattle.text.specs.declared.Mode.{Mode}
-use Rattle.text.specs.declared.Record.{Record}
-use Rattle.text.specs.declared.Record.the-variants.{Loop, Begin, End}
-use Rattle.reading.specs.Written.{textFrom}
 use Rattle.reading.specs.Reading.{readOf, accepted as readTo, refused}
 use Rattle.steps.specs.State.{countWords, valueWords}
 use Rattle.steps.specs.Answers.{Left, openOf}
+use Rattle.text.specs.Ascii.{ascii}
 use Rattle.steps.specs.Calls.{Call, start, finish, result, isStep, Lent, lentBy, call, play, accepted}
 
--- the records of a text
-abbrev pub loop : ℕ → ℕ → ℕ → Record
-loop passes ranks regions = Loop (Value passes) (Value ranks) (Value regions)
+-- the example on two ranks ("The run program") with 2 passes, and with none
+abbrev pub example : List ℕ
+example =
+    ascii "loop\t2\t2\t2\nstart\t0\t5\nbegin\t0\t1\t1\ninout\t0\nend\nbegin\t1\t1\t0\nin\t0\ninout\t1\nend\n"
 
-abbrev pub starting : ℕ → ℕ → Record
-starting g v = Record.Start (Value g) (Value v)
+abbrev pub noPass : List ℕ
+noPass =
+    ascii "loop\t0\t2\t2\nstart\t0\t5\nbegin\t0\t1\t1\ninout\t0\nend\nbegin\t1\t1\t0\nin\t0\ninout\t1\nend\n"
 
-abbrev pub begin : ℕ → ℕ → ℕ → Record
-begin rank kernel constant = Begin (Value rank) (Value kernel) (Value constant)
-
-abbrev pub accessIn : ℕ → Record
-accessIn g = Record.Access Mode.In (Value g)
-
-abbrev pub accessOut : ℕ → Record
-accessOut g = Record.Access Mode.Out (Value g)
-
-abbrev pub accessInout : ℕ → Record
-accessInout g = Record.Access Mode.Inout (Value g)
-
--- the example on two ranks with so many passes ("The run program"), and the words that it is read to
-abbrev pub example : ℕ → List ℕ
-example passes =
-    textFrom
-    (loop passes 2 2 ∷ starting 0 5
-    ∷ begin 0 1 1 ∷ accessInout 0 ∷ End
-    ∷ begin 1 1 0 ∷ accessIn 0 ∷ accessInout 1 ∷ End
-    ∷ [])
-
+-- the words that the example is read to with so many passes
 abbrev pub exampleWords : ℕ → List ℕ
 exampleWords passes =
     passes ∷ 2 ∷ 2 ∷ 2 ∷ 5 ∷ (replicate 127 0
@@ -54,12 +32,7 @@ exampleWords passes =
 
 -- a text of two tasks on one rank that only read one region
 abbrev pub readers : List ℕ
-readers =
-    textFrom
-    (loop 1 1 1
-    ∷ begin 0 0 0 ∷ accessIn 0 ∷ End
-    ∷ begin 0 0 0 ∷ accessIn 0 ∷ End
-    ∷ [])
+readers = ascii "loop\t1\t1\t1\nbegin\t0\t0\t0\nin\t0\nend\nbegin\t0\t0\t0\nin\t0\nend\n"
 
 abbrev pub readersWords : List ℕ
 readersWords =
@@ -88,8 +61,8 @@ after plan s l c = call plan (play plan s l) c
 
 pub record Table : Type 0 where
   -- the texts are read to these words
-  pub example-read : readOf (example 2) ≡ readTo (exampleWords 2)
-  pub no-pass-read : readOf (example 0) ≡ readTo (exampleWords 0)
+  pub example-read : readOf example ≡ readTo (exampleWords 2)
+  pub no-pass-read : readOf noPass ≡ readTo (exampleWords 0)
   pub readers-read : readOf readers ≡ readTo readersWords
   -- A the edges that the paper prints
   pub case-a : AllEdges (bodyOf (exampleWords 2)) tenEdges
@@ -116,5 +89,5 @@ pub record Table : Type 0 where
   -- J two tasks on one rank that only read one region: each has its own edge, and there is none between them
   pub case-j : AllEdges (bodyOf readersWords) ((0, 0, 1) ∷ (1, 1, 1) ∷ [])
   -- K a second `begin` before `end`: 4 at its line, the third. L `in` 0 then `out` 0: 6 at the fourth line
-  pub case-k : readOf (textFrom (loop 2 2 2 ∷ begin 0 1 1 ∷ begin 1 1 0 ∷ End ∷ [])) ≡ refused 4 3
-  pub case-l : readOf (textFrom (loop 2 2 2 ∷ begin 0 0 1 ∷ accessIn 0 ∷ accessOut 0 ∷ End ∷ [])) ≡ refused 6 4
+  pub case-k : readOf (ascii "loop\t2\t2\t2\nbegin\t0\t1\t1\nbegin\t1\t1\t0\nend\n") ≡ refused 4 3
+  pub case-l : readOf (ascii "loop\t2\t2\t2\nbegin\t0\t0\t1\nin\t0\nout\t0\nend\n") ≡ refused 6 4
