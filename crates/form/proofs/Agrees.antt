@@ -12,6 +12,7 @@ use lib.ListN.{length, replicate, length-replicate, getD-replicate}
 use Rattle.finite.specs.Below.{allBelow}
 use Rattle.finite.proofs.Tests.{not-both, test-ext, and-true, and-intro, or-right, true-or-false}
 use Rattle.finite.proofs.Below.{all-at, all-of, any-at, any-never}
+use Rattle.kernels.proofs.Laws.{suits-kernel}
 use Rattle.plan.specs.Limits.{maxPasses, maxRanks, maxRegions, maxTasks, maxAccesses, maxKernel}
 use Rattle.plan.specs.Layout.{at, passesOf, ranksOf, regionsOf, tasksOf, startingOf, rankOf, kernelOf, accessesOf, accessAt, regionAt, planWords, rankIndex, taskWords, accessEnd}
 use Rattle.plan.specs.Form.{countsOk, valueOk, accessOk, restOk, usedOk, unusedOk, taskOk, wordsOk}
@@ -89,10 +90,10 @@ module _ (w : List ℕ) where
         let h = and-true (headOk w i) (freshAllOk w i && (restOk w i && readsOk w i)) (all-at (scanOk w) (tasksOf w) i s l) in
         let f = and-true (freshAllOk w i) (restOk w i && readsOk w i) (h .1) in
         let e = and-true (restOk w i) (readsOk w i) (f .1) in
-        let a = and-true (ltb (rankOf w i) (ranksOf w)) (leb (kernelOf w i) maxKernel && leb (accessesOf w i) maxAccesses) (h .0) in
-        let b = and-true (leb (kernelOf w i) maxKernel) (leb (accessesOf w i) maxAccesses) (a .1) in
+        let a = and-true (ltb (rankOf w i) (ranksOf w)) (leb (accessesOf w i) maxAccesses) (h .0) in
+        let k : leb (kernelOf w i) maxKernel ≡ true = le-leb _ _ (suits-kernel (kernelOf w i) _ (e .1)) in
         let c : allBelow (accessesOf w i) (accessOk w i) ≡ true = all-of (accessOk w i) (accessesOf w i) (λ j m. access-of-scan i j l m (all-at (freshOk w i) (accessesOf w i) j (f .0) m)) in
-        rw (a .0, b .0, b .1, c, e .1) (e .0)
+        rw (a .0, k, a .1, c, e .1) (e .0)
 
     word-of-scan : (m : ℕ) → m < half w + half w → at w (rankIndex (tasksOf w) + m) ≡ 0
     word-of-scan m l =
@@ -141,7 +142,7 @@ module _ (w : List ℕ) where
     scan-of-form i l =
         let u = F .used i l in
         let f : freshAllOk w i ≡ true = all-of (freshOk w i) (accessesOf w i) (λ a m. fresh-of-form i a l m) in
-        rw (lt-ltb _ _ (u .rank-below), le-leb _ _ (u .kernel-most), le-leb _ _ (u .accesses-most), f, rest-of-form i l) (u .suited)
+        rw (lt-ltb _ _ (u .rank-below), le-leb _ _ (u .accesses-most), f, rest-of-form i l) (u .suited)
 
     absent-of-form : (g : ℕ) → g < maxRegions → behindOk w g ≡ true
     absent-of-form g l =

@@ -4,7 +4,6 @@ use Prim.Native.Nat.{ℕ, _+_, _-_, _*_, _≤_, _<_}
 use mathlib.Core.Path.{_≡_, refl, sym, _∙_, ap}
 use mathlib.Core.Bool.{Bool, true, false, _&&_, _||_, or-true}
 use mathlib.Core.List.{List}
-use native.Mathlib.Decide.{ℕ-discrete}
 use native.Mathlib.Omega.{arith}
 use borrow.Author.Tests.{lt-ltb, le-ltb, eqb-true, eq-eqb, ne-eqb}
 use lib.Bits.{bitOr, or-add-and, and-le-l, and-le-r}
@@ -13,7 +12,6 @@ use lib.ListN.{getD}
 use Rattle.finite.specs.Below.{allBelow}
 use Rattle.finite.proofs.Tests.{test-ext, and-true, and-intro}
 use Rattle.finite.proofs.Below.{all-more, all-of, all-done, all-fails}
-use Rattle.kernels.specs.Kernels.{suits}
 use Rattle.plan.specs.Limits.{maxRegions, maxTasks, maxAccesses}
 use Rattle.plan.specs.Layout.{at, regionsOf, tasksOf, startingOf, accessesOf, accessAt, rankIndex}
 use Rattle.plan.specs.Form.{restOk}
@@ -47,11 +45,6 @@ module _ (w : List ℕ) where
   pub pair-more : (k bits tasks : ℕ) → tasks ≡ tasksOf w → eqb bits 0 ≡ allBelow k (pairOk w)
       → eqb (bitOr bits (bitOr (at w (rankIndex tasks + k)) (at w (rankIndex tasks + 6 * (maxTasks - tasks) + k)))) 0 ≡ allBelow (k + 1) (pairOk w)
   pair-more k bits tasks e h = rw e (zero-more (pairOk w) k bits (at w (rankIndex (tasksOf w) + k)) (at w (rankIndex (tasksOf w) + half w + k)) h refl)
-
--- kernels 0 and 1 permit any number of reads
-pub suits-low : (k n : ℕ) → k ≤ 1 → true ≡ suits k n
-unfolding suits
-suits-low k n h = elim (ℕ-discrete k 0) [ yes e ↦ rw e | no e ↦ (let o : k ≡ 1 = omega arith in rw o) ]
 
 module _ (w : List ℕ) (i : ℕ) where
   abbrev pub restAt : ℕ → Bool

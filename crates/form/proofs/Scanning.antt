@@ -1,8 +1,8 @@
 -- Laws of the scan of the tasks: -none, -more, -not and -done are a loop's, before its first turn,
 -- over a turn, at a task that is not in form, and after its last.
 use Prim.Native.Nat.{ℕ, suc, _+_, _*_, _≤_, _<_}
-use mathlib.Core.Path.{_≡_, sym, _∙_}
-use mathlib.Core.Bool.{Bool, true, false, not, _&&_, and-false}
+use mathlib.Core.Path.{_≡_, refl, sym, _∙_}
+use mathlib.Core.Bool.{Bool, true, false, not, and-false}
 use mathlib.Core.List.{List}
 use native.Mathlib.Numerals.{add-one}
 use native.Mathlib.Omega.{arith}
@@ -11,26 +11,39 @@ use lib.Dec.{ltb, leb}
 use Rattle.finite.specs.Below.{allBelow, sumBelow}
 use Rattle.finite.proofs.Tests.{not-both, and-true}
 use Rattle.finite.proofs.Below.{below-suc, all-none, all-more, all-done, all-fails, count-le, sum-none, sum-more, sum-done}
-use Rattle.plan.specs.Limits.{maxRanks, maxAccesses, maxKernel}
-use Rattle.plan.specs.Layout.{ranksOf, tasksOf, rankOf, kernelOf, accessesOf}
+use Rattle.kernels.specs.declared.Permitted.the-variants.{Any, Exactly, AtLeast}
+use Rattle.kernels.specs.declared.Kernel.{Kernel}
+use Rattle.kernels.specs.declared.Kernel.the-variants.{Known, Unknown}
+use Rattle.kernels.specs.Kernels.{kernelBy, permits, suits}
+use Rattle.kernels.proofs.Laws.{suits-by}
+use Rattle.plan.specs.Limits.{maxRanks, maxAccesses}
+use Rattle.plan.specs.Layout.{ranksOf, tasksOf, rankOf, accessesOf}
 use Rattle.plan.specs.Form.{restOk}
 use Rattle.form.specs.Changes.{changed, changeCount}
-use Rattle.form.specs.Scan.{kept, freshAllOk, changesOf, headOk, readsOk, scanOk, tasksScanOk, Open, Ready, Scanned}
+use Rattle.form.specs.Scan.{kept, freshAllOk, changesOf, headOk, takesAny, readsOk, scanOk, tasksScanOk, Open, Ready, Scanned}
 
 scanned-not : (test : Bool) (count : ℕ) (f : ℕ → ℕ) (ok : Bool) (n : ℕ) (l : List ℕ) → ok ≡ false → test ≡ false → Scanned test count f ok n l
 scanned-not test count f ok n l p q = record { tested = p ∙ sym q; counts = λ t. absurd (not-both t p); keeps = λ t. absurd (not-both t p) }
 
+-- the reads of a kernel that takes any need not be counted
+pub suits-any : (k n : ℕ) → takesAny (kernelBy k) ≡ true → true ≡ suits k n
+suits-any k n h = any-permits (kernelBy k) h ∙ suits-by k n (kernelBy k) refl
+  where
+    any-permits : (x : Kernel) → takesAny x ≡ true → true ≡ permits x n
+    any-permits (Known f Any) h = refl
+    any-permits (Known f (Exactly m)) h = absurd (not-both h refl)
+    any-permits (Known f (AtLeast m)) h = absurd (not-both h refl)
+    any-permits Unknown h = absurd (not-both h refl)
+
 module _ (w : List ℕ) where
   pub record Head (i : ℕ) : Type 0 where
     pub rank : rankOf w i < ranksOf w
-    pub kernel : kernelOf w i ≤ maxKernel
     pub few : accessesOf w i ≤ maxAccesses
 
   pub head-of : (i : ℕ) → headOk w i ≡ true → Head i
   head-of i h =
-      let a = and-true (ltb (rankOf w i) (ranksOf w)) (leb (kernelOf w i) maxKernel && leb (accessesOf w i) maxAccesses) h in
-      let b = and-true (leb (kernelOf w i) maxKernel) (leb (accessesOf w i) maxAccesses) (a .1) in
-      record { rank = ltb-true _ _ (a .0); kernel = leb-true _ _ (b .0); few = leb-true _ _ (b .1) }
+      let a = and-true (ltb (rankOf w i) (ranksOf w)) (leb (accessesOf w i) maxAccesses) h in
+      record { rank = ltb-true _ _ (a .0); few = leb-true _ _ (a .1) }
 
   -- one task: a test answered t
 

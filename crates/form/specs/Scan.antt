@@ -2,13 +2,16 @@
 -- show that it is the test of Form, and that it counts what Changes counts.
 use Prim.Native.Nat.{ℕ, zero, suc, _+_, _-_, _*_, _≤_, _<_}
 use mathlib.Core.Path.{_≡_}
-use mathlib.Core.Bool.{Bool, true, cond, not, _&&_, _||_}
+use mathlib.Core.Bool.{Bool, true, false, cond, not, _&&_, _||_}
 use mathlib.Core.List.{List}
 use lib.Dec.{eqb, ltb, leb}
 use lib.ListN.{length, getD}
 use Rattle.finite.specs.Below.{allBelow, anyBelow, countBelow}
+use Rattle.kernels.specs.declared.Permitted.the-variants.{Any, Exactly, AtLeast}
+use Rattle.kernels.specs.declared.Kernel.{Kernel}
+use Rattle.kernels.specs.declared.Kernel.the-variants.{Known, Unknown}
 use Rattle.kernels.specs.Kernels.{suits}
-use Rattle.plan.specs.Limits.{maxRanks, maxRegions, maxTasks, maxAccesses, maxKernel}
+use Rattle.plan.specs.Limits.{maxRanks, maxRegions, maxTasks, maxAccesses}
 use Rattle.plan.specs.Layout.{planWords, at, ranksOf, regionsOf, tasksOf, startingOf, rankOf, kernelOf, accessesOf, accessAt, regionAt, isRead, rankIndex, accessEnd}
 use Rattle.plan.specs.Form.{restOk, wordsOk}
 use Rattle.form.specs.Changes.{names, changed, changeCount}
@@ -24,6 +27,13 @@ pub record Scanned (test : Bool) (count : ℕ) (f : ℕ → ℕ) (ok : Bool) (ch
   pub tested : ok ≡ test
   pub counts : ok ≡ true → changes ≡ count
   pub keeps : ok ≡ true → Keeps f l
+
+-- a kernel that permits any number of reads
+abbrev pub takesAny : Kernel → Bool
+takesAny (Known f Any) = true
+takesAny (Known f (Exactly n)) = false
+takesAny (Known f (AtLeast n)) = false
+takesAny Unknown = false
 
 module _ (w : List ℕ) where
   -- kept for a region that task i was the last to name: its rank and its number
@@ -51,7 +61,7 @@ module _ (w : List ℕ) where
   changesOf i = countBelow (accessesOf w i) (changed w i)
 
   abbrev pub headOk : ℕ → Bool
-  headOk i = ltb (rankOf w i) (ranksOf w) && (leb (kernelOf w i) maxKernel && leb (accessesOf w i) maxAccesses)
+  headOk i = ltb (rankOf w i) (ranksOf w) && leb (accessesOf w i) maxAccesses
 
   abbrev pub readsOk : ℕ → Bool
   readsOk i = suits (kernelOf w i) (countBelow (accessesOf w i) (isRead w i))

@@ -5,14 +5,16 @@ ghost use mathlib.Core.Path.{_≡_};
 ghost use mathlib.Core.Bool.{false};
 ghost use Prim.Native.Nat.{suc, _≤_, _<_};
 ghost use lib.ListN.{length};
+ghost use Rattle.kernels.specs.Kernels.{kernelBy};
 ghost use Rattle.plan.specs.Limits.{maxRegions, maxTasks, maxAccesses};
 ghost use Rattle.plan.specs.Layout.{planWords, regionsOf, tasksOf, accessesOf};
 ghost use Rattle.plan.specs.Form.{countsOk, restOk};
 ghost use Rattle.form.specs.Changes.{changeCount};
-ghost use Rattle.form.specs.Scan.{kept, freshAllOk, changesOf, headOk, readsOk, scanOk, tasksScanOk, behindRegionsOk, behindTasksOk, Keeps, Open, Ready, Scanned, Answer};
+ghost use Rattle.form.specs.Scan.{kept, freshAllOk, changesOf, headOk, takesAny, readsOk, scanOk, tasksScanOk, behindRegionsOk, behindTasksOk, Keeps, Open, Ready, Scanned, Answer};
+use kernels::Kernel;
+use kernels::Permitted;
 use plan::layout::ACCESS_END;
 use plan::layout::FIRST_COUNT;
-use plan::layout::FIRST_KERNEL;
 use plan::layout::FIRST_RANK;
 use plan::layout::FIRST_START;
 use plan::layout::PASSES;
@@ -28,7 +30,6 @@ use plan::layout::rank_of;
 use plan::layout::read_count;
 use plan::layout::tasks_of;
 use plan::limits::MAX_ACCESSES;
-use plan::limits::MAX_KERNEL;
 use plan::limits::MAX_PASSES;
 use plan::limits::MAX_RANKS;
 use plan::limits::MAX_REGIONS;
@@ -67,26 +68,42 @@ fn counts_ok(plan: &[u64]) -> bool
                     & ((regions <= MAX_REGIONS) & ((1 <= tasks) & (tasks <= MAX_TASKS))))))
 }
 
-// Whether the rank, the kernel and the number of accesses of task i are within their limits.
+// Whether the rank and the number of accesses of task i are within their limits.
 fn head_ok(plan: &[u64], i: usize) -> bool
     requires { ⌜ (planWords ≤ length (now plan)) × (i < maxTasks) ⌝ }
     ensures { λ r. ⌜ r ≡ headOk (now (plan .entry)) i ⌝ }
 {
     let ranks = plan[RANKS];
     let rank = plan[FIRST_RANK + TASK_WORDS * i];
-    let kernel = plan[FIRST_KERNEL + TASK_WORDS * i];
     let accesses = plan[FIRST_COUNT + TASK_WORDS * i] as usize;
-    (rank < ranks) & ((kernel <= MAX_KERNEL) & (accesses <= MAX_ACCESSES))
+    (rank < ranks) & (accesses <= MAX_ACCESSES)
 }
 
-// Whether the kernel of task i permits its number of reads, which is counted only where that
+// Whether a kernel permits any number of reads.
+fn takes_any(number: u64) -> bool
+    ensures { λ r. ⌜ r ≡ takesAny (kernelBy number) ⌝ }
+{
+    match kernels::kernel_by(number) {
+        Kernel::Known {
+            computation: _,
+            permitted,
+        } => match permitted {
+            Permitted::Any => true,
+            Permitted::Exactly(_) => false,
+            Permitted::AtLeast(_) => false,
+        },
+        Kernel::Unknown => false,
+    }
+}
+
+// Whether task i has a kernel, and as many reads as it permits; they are counted only where that
 // matters.
 fn reads_ok(plan: &[u64], i: usize) -> bool
     requires { ⌜ (planWords ≤ length (now plan)) × (i < maxTasks) × (accessesOf (now plan) i ≤ maxAccesses) ⌝ }
     ensures { λ r. ⌜ r ≡ readsOk (now (plan .entry)) i ⌝ }
 {
     let kernel = kernel_of(plan, i);
-    if kernel <= 1 {
+    if takes_any(kernel) {
         true
     } else {
         kernels::suits_kernel(kernel, read_count(plan, i))

@@ -1,18 +1,20 @@
 -- Laws of the kernels. Those that end in -none, -more and -done are a loop's over the reads: before
 -- its first turn, over a turn, and after its last.
 use Prim.Native.Nat.{ℕ, zero, suc, _+_, _/_, _%_, _^_, _≤_, _<_, max}
-use mathlib.Core.Path.{_≡_, refl}
-use mathlib.Core.Bool.{true, false, cond}
+use mathlib.Core.Path.{_≡_, refl, sym, ap, _∙_}
+use mathlib.Core.Bool.{true, false}
 use mathlib.Core.List.{List, [], _∷_, _++_}
 use native.Mathlib.Decide.{decLe}
 use native.Mathlib.Numerals.{add-one}
 use native.Mathlib.Omega.{arith}
-use lib.Dec.{eqb}
+use lib.Dec.{leb}
 use lib.ListN.{length, getD, take}
 use lib.Seq.{take-suc, take-all}
-use borrow.Author.Tests.{ne-eqb}
+use borrow.Author.Tests.{lt-leb, ne-eqb}
 use Rattle.finite.proofs.Tests.{not-both}
-use Rattle.kernels.specs.Kernels.{readAt, total, largest, sumWord, kernelWord, suits}
+use Rattle.kernels.specs.declared.Kernel.{Kernel}
+use Rattle.kernels.specs.declared.Kernel.the-variants.{Unknown}
+use Rattle.kernels.specs.Kernels.{readAt, total, largest, sumWord, kernelBy, computes, permits, isKnown, kernelWord, suits, isKernel}
 
 -- total
 
@@ -55,16 +57,36 @@ unfolding largest
 largest-below [] n p h = p
 largest-below (x ∷ xs) n p h = omega (arith, largest-below xs n p (λ i. h (suc i)), h 0)
 
--- a choice by kernel, at a number that is none
-choice-other : {X : Type 0} (k : ℕ) (a b c d e z : X) → 4 < k → cond (eqb k 0) a (cond (eqb k 1) b (cond (eqb k 2) c (cond (eqb k 3) d (cond (eqb k 4) e z)))) ≡ z
-choice-other k a b c d e z h =
+-- kernelBy
+
+-- no number above 4 is a kernel
+pub kernelBy-other : (k : ℕ) → 4 < k → kernelBy k ≡ Unknown
+kernelBy-other k h =
     rw (ne-eqb k 0 (λ p. omega arith), ne-eqb k 1 (λ p. omega arith), ne-eqb k 2 (λ p. omega arith), ne-eqb k 3 (λ p. omega arith), ne-eqb k 4 (λ p. omega arith))
+
+-- isKernel
+
+-- the kernels are the numbers 0 to 4
+pub isKernel-most : (k : ℕ) → isKernel k ≡ leb k 4
+unfolding isKernel
+isKernel-most zero = refl
+isKernel-most (suc zero) = refl
+isKernel-most (suc (suc zero)) = refl
+isKernel-most (suc (suc (suc zero))) = refl
+isKernel-most (suc (suc (suc (suc zero)))) = refl
+isKernel-most (suc (suc (suc (suc (suc k))))) =
+    ap isKnown (kernelBy-other (suc (suc (suc (suc (suc k))))) (omega arith)) ∙ sym (lt-leb (suc (suc (suc (suc (suc k))))) 4 (omega arith))
 
 -- suits
 
 pub suits-other : (k n : ℕ) → 4 < k → suits k n ≡ false
 unfolding suits
-suits-other k n h = choice-other k _ _ _ _ _ _ h
+suits-other k n h = ap (λ x. permits x n) (kernelBy-other k h)
+
+-- what a kernel permits, its number suits
+pub suits-by : (k n : ℕ) (x : Kernel) → x ≡ kernelBy k → permits x n ≡ suits k n
+unfolding suits
+suits-by k n x e = ap (λ y. permits y n) e
 
 -- a number that permits some number of reads is a kernel
 pub suits-kernel : (k n : ℕ) → suits k n ≡ true → k ≤ 4
@@ -74,7 +96,7 @@ suits-kernel k n h = elim (decLe k 4) [ yes l ↦ l | no l ↦ absurd (not-both 
 
 pub kernelWord-other : (k c : ℕ) (xs : List ℕ) → 4 < k → kernelWord k c xs ≡ 0
 unfolding kernelWord
-kernelWord-other k c xs h = choice-other k _ _ _ _ _ _ h
+kernelWord-other k c xs h = ap (λ x. computes x c xs) (kernelBy-other k h)
 
 -- the second read added to the word of kernel 2 gives the first plus c, modulo 2^64
 pub kernelWord-difference : (c : ℕ) (xs : List ℕ) → readAt xs 1 ≤ 2 ^ 64 → (kernelWord 2 c xs + readAt xs 1) % 2 ^ 64 ≡ (readAt xs 0 + c) % 2 ^ 64

@@ -4,6 +4,12 @@ use mathlib.Core.Bool.{Bool, true, false, cond}
 use mathlib.Core.List.{List, [], _∷_}
 use lib.Dec.{eqb, leb}
 use lib.ListN.{getD}
+use Rattle.kernels.specs.declared.Computation.{Computation}
+use Rattle.kernels.specs.declared.Computation.the-variants.{Constant, Sum, Difference, Mean, Largest}
+use Rattle.kernels.specs.declared.Permitted.{Permitted}
+use Rattle.kernels.specs.declared.Permitted.the-variants.{Any, Exactly, AtLeast}
+use Rattle.kernels.specs.declared.Kernel.{Kernel}
+use Rattle.kernels.specs.declared.Kernel.the-variants.{Known, Unknown}
 
 -- the exact sum of all reads
 unfoldable pub total : List ℕ → ℕ
@@ -31,24 +37,54 @@ differenceWord c reads = (readAt reads 0 + (2 ^ 64 - readAt reads 1) + c) % 2 ^ 
 abbrev pub meanWord : List ℕ → ℕ
 meanWord reads = (readAt reads 0 + readAt reads 1 + readAt reads 2 + readAt reads 3) / 4
 
--- the word of kernel k with the constant c and the words read, in record order; 0 where k is no
--- kernel
-unfoldable pub kernelWord : ℕ → ℕ → List ℕ → ℕ
-kernelWord k c reads =
-    cond (eqb k 0) c
-    (cond (eqb k 1) (sumWord c reads)
-    (cond (eqb k 2) (differenceWord c reads)
-    (cond (eqb k 3) (meanWord reads)
-    (cond (eqb k 4) (largest reads)
-    0))))
+-- what number k is as a kernel: what it computes, and how many reads it permits; no other number
+-- is a kernel
+abbrev pub kernelBy : ℕ → Kernel
+kernelBy k =
+    cond (eqb k 0) (Known Constant Any)
+    (cond (eqb k 1) (Known Sum Any)
+    (cond (eqb k 2) (Known Difference (Exactly 2))
+    (cond (eqb k 3) (Known Mean (Exactly 4))
+    (cond (eqb k 4) (Known Largest (AtLeast 1))
+    Unknown))))
 
--- kernel k permits n reads: 0 and 1 any, 2 exactly two, 3 exactly four, 4 at least one; no other
--- number is a kernel
+-- the word of each computation, with the constant c and the words read
+abbrev pub wordBy : Computation → ℕ → List ℕ → ℕ
+wordBy Constant c reads = c
+wordBy Sum c reads = sumWord c reads
+wordBy Difference c reads = differenceWord c reads
+wordBy Mean c reads = meanWord reads
+wordBy Largest c reads = largest reads
+
+-- n reads are permitted
+abbrev pub allowed : Permitted → ℕ → Bool
+allowed Any n = true
+allowed (Exactly m) n = eqb n m
+allowed (AtLeast m) n = leb m n
+
+-- the word of what a number is as a kernel; 0 where it is none
+abbrev pub computes : Kernel → ℕ → List ℕ → ℕ
+computes (Known f p) c reads = wordBy f c reads
+computes Unknown c reads = 0
+
+-- that it permits n reads
+abbrev pub permits : Kernel → ℕ → Bool
+permits (Known f p) n = allowed p n
+permits Unknown n = false
+
+-- that it is a kernel
+abbrev pub isKnown : Kernel → Bool
+isKnown (Known f p) = true
+isKnown Unknown = false
+
+-- the word of kernel k with the constant c and the words read, in record order
+unfoldable pub kernelWord : ℕ → ℕ → List ℕ → ℕ
+kernelWord k c reads = computes (kernelBy k) c reads
+
+-- kernel k permits n reads
 unfoldable pub suits : ℕ → ℕ → Bool
-suits k n =
-    cond (eqb k 0) true
-    (cond (eqb k 1) true
-    (cond (eqb k 2) (eqb n 2)
-    (cond (eqb k 3) (eqb n 4)
-    (cond (eqb k 4) (leb 1 n)
-    false))))
+suits k n = permits (kernelBy k) n
+
+-- k is the number of a kernel
+unfoldable pub isKernel : ℕ → Bool
+isKernel k = isKnown (kernelBy k)

@@ -2,7 +2,7 @@
 // permits. Which words are read, and what becomes of the computed one, is no matter of this crate.
 ghost use mathlib.Core.Path.{_≡_};
 ghost use Prim.Native.Nat.{_+_, _-_, _/_, _%_, _^_, max};
-ghost use Rattle.kernels.specs.Kernels.{readAt, sumWord, differenceWord, meanWord, largest, kernelWord, suits};
+ghost use Rattle.kernels.specs.Kernels.{readAt, sumWord, differenceWord, meanWord, largest, kernelBy, wordBy, allowed, kernelWord, suits, isKernel};
 
 // The read at place i; 0 where there is none.
 fn read_at(reads: &[u64], i: usize) -> u64
@@ -78,31 +78,120 @@ fn largest_word(reads: &[u64]) -> u64
     top
 }
 
-// The word of a task, by its kernel's number, its constant c and the words it reads, in record
-// order. A read that is not there counts as 0, and where the number is no kernel's the word is 0.
-pub fn kernel_word(kernel: u64, c: u64, reads: &[u64]) -> u64
-    ensures { λ r. ⌜ r ≡ kernelWord kernel c (now (reads .entry)) ⌝ }
+// What a kernel computes.
+pub enum Computation {
+    Constant,
+    Sum,
+    Difference,
+    Mean,
+    Largest,
+}
+
+// How many reads a kernel permits.
+pub enum Permitted {
+    Any,
+    Exactly(u64),
+    AtLeast(u64),
+}
+
+// What a number is as a kernel.
+pub enum Kernel {
+    Known {
+        computation: Computation,
+        permitted: Permitted,
+    },
+    Unknown,
+}
+
+// The kernel of a number: the one place that tells kernels apart by their numbers.
+pub fn kernel_by(number: u64) -> Kernel
+    ensures { λ r. ⌜ r ≡ kernelBy number ⌝ }
 {
-    match kernel {
-        0 => c,
-        1 => sum_word(c, reads),
-        2 => difference_word(c, reads),
-        3 => mean_word(reads),
-        4 => largest_word(reads),
-        _ => 0,
+    match number {
+        0 => Kernel::Known {
+            computation: Computation::Constant,
+            permitted: Permitted::Any,
+        },
+        1 => Kernel::Known {
+            computation: Computation::Sum,
+            permitted: Permitted::Any,
+        },
+        2 => Kernel::Known {
+            computation: Computation::Difference,
+            permitted: Permitted::Exactly(2),
+        },
+        3 => Kernel::Known {
+            computation: Computation::Mean,
+            permitted: Permitted::Exactly(4),
+        },
+        4 => Kernel::Known {
+            computation: Computation::Largest,
+            permitted: Permitted::AtLeast(1),
+        },
+        _ => Kernel::Unknown,
     }
 }
 
-// Whether the kernel permits so many reads. No number above 4 is a kernel.
-pub fn suits_kernel(kernel: u64, reads: u64) -> bool
-    ensures { λ r. ⌜ r ≡ suits kernel reads ⌝ }
+// The word of a computation.
+fn word_by(computation: Computation, c: u64, reads: &[u64]) -> u64
+    ensures { λ r. ⌜ r ≡ wordBy computation c (now (reads .entry)) ⌝ }
 {
-    match kernel {
-        0 => true,
-        1 => true,
-        2 => reads == 2,
-        3 => reads == 4,
-        4 => reads >= 1,
-        _ => false,
+    match computation {
+        Computation::Constant => c,
+        Computation::Sum => sum_word(c, reads),
+        Computation::Difference => difference_word(c, reads),
+        Computation::Mean => mean_word(reads),
+        Computation::Largest => largest_word(reads),
+    }
+}
+
+// Whether so many reads are permitted.
+fn allows(permitted: Permitted, reads: u64) -> bool
+    ensures { λ r. ⌜ r ≡ allowed permitted reads ⌝ }
+{
+    match permitted {
+        Permitted::Any => true,
+        Permitted::Exactly(n) => reads == n,
+        Permitted::AtLeast(n) => reads >= n,
+    }
+}
+
+// The word of a task, by its kernel's number, its constant c and the words it reads, in record
+// order. A read that is not there counts as 0, and where the number is no kernel's the word is 0.
+pub fn kernel_word(number: u64, c: u64, reads: &[u64]) -> u64
+    ensures { λ r. ⌜ r ≡ kernelWord number c (now (reads .entry)) ⌝ }
+{
+    match kernel_by(number) {
+        Kernel::Known {
+            computation,
+            permitted: _,
+        } => word_by(computation, c, reads),
+        Kernel::Unknown => 0,
+    }
+}
+
+// Whether the kernel permits so many reads. A number that is no kernel's permits no number of them.
+pub fn suits_kernel(number: u64, reads: u64) -> bool
+    ensures { λ r. ⌜ r ≡ suits number reads ⌝ }
+{
+    match kernel_by(number) {
+        Kernel::Known {
+            computation: _,
+            permitted,
+        } => allows(permitted, reads),
+        Kernel::Unknown => false,
+    }
+}
+
+// Whether the number is a kernel's.
+pub fn is_kernel(number: u64) -> bool
+    ensures { λ r. ⌜ r ≡ isKernel number ⌝ }
+{
+    match kernel_by(number) {
+        Kernel::Known {
+            computation: _,
+            permitted: _,
+        } => true,
+        Kernel::Unknown => false,
     }
 }

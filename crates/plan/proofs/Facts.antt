@@ -24,7 +24,6 @@ use Rattle.plan.specs.Form.{countsOk, valueOk, accessOk, restOk, usedOk,
 pub record Used (w : List ℕ) (i : ℕ) : Type 0 where
   pub rank-below : rankOf w i < ranksOf w
   pub rank-most : rankOf w i < maxRanks
-  pub kernel-most : kernelOf w i ≤ maxKernel
   pub accesses-most : accessesOf w i ≤ maxAccesses
   pub access-below : (a : ℕ) → a < accessesOf w i → accessAt w i a < accessEnd
   pub region-below : (a : ℕ) → a < accessesOf w i → regionAt w i a < regionsOf w
@@ -90,7 +89,6 @@ module _ (w : List ℕ) where
       record {
         rank-below = below;
         rank-most = omega arith;
-        kernel-most = leb-true _ _ (k .0);
         accesses-most = leb-true _ _ (n .0);
         access-below = λ b l. access-facts i b (each b l) .0;
         region-below = λ b l. access-facts i b (each b l) .1;

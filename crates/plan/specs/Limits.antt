@@ -22,6 +22,7 @@ maxAccesses = 8
 abbrev pub maxTransfers : ℕ
 maxTransfers = 256
 
+-- as in `kernelBy` of crate kernels, by its law `isKernel-most`
 abbrev pub maxKernel : ℕ
 maxKernel = 4
 

@@ -8,6 +8,7 @@ use lib.ListN.{length, set, replicate}
 use lib.Dec.{eqb, ltb, leb}
 use Rattle.text.specs.declared.Record.{Record}
 use Rattle.text.specs.declared.Record.the-variants.{Loop, Start, Begin, Access, End, Unreadable}
+use Rattle.text.specs.declared.RecordAt.the-variants.{Unended}
 use Rattle.finite.specs.Below.{anyBelow, countBelow}
 use Rattle.body.specs.Transfers.{transferCount}
 use Rattle.kernels.specs.Kernels.{suits}
@@ -15,7 +16,7 @@ use Rattle.text.specs.Records.{recordOf, split}
 use Rattle.plan.specs.Layout.{accessesOf, at, bodyOf, isRead, kernelOf, planWords, ranksOf, regionAt, regionsOf, tasksOf, rankIndex, kernelIndex, constantIndex, accessesIndex, accessIndex}
 use Rattle.plan.specs.Limits.{maxAccesses, maxBytes, maxKernel, maxPasses, maxRanks, maxRegions, maxTasks, maxTransfers}
 use Rattle.reading.specs.Plan.{modeWord}
-use Rattle.reading.specs.Reading.{Reading, accepted, below, isEmpty, isWord, lies, refused, valueOf}
+use Rattle.reading.specs.Reading.{Reading, accepted, below, isEmpty, isWord, lies, lineRefusal, recordRefusal, refused, valueOf}
 
 -- phase 0: no line read, 1: no task open, 2: a task open; a flag for each region that a `start`
 -- named; the words
@@ -52,7 +53,7 @@ move zero f w (Start g v) = stop 2
 move zero f w (Begin q k c) = stop 2
 move zero f w (Access m g) = stop 2
 move zero f w End = stop 2
-move zero f w Unreadable = stop 1
+move zero f w Unreadable = stop (recordRefusal Unreadable)
 move (suc zero) f w (Loop p q n) = stop 2
 move (suc zero) f w (Start g v) =
     unless (eqb (tasksOf w) 0) 2
@@ -68,7 +69,7 @@ move (suc zero) f w (Begin q k c) =
     (go 2 f (putBegin w (tasksOf w) (valueOf q) (valueOf k) (valueOf c))))))
 move (suc zero) f w (Access m g) = stop 5
 move (suc zero) f w End = stop 5
-move (suc zero) f w Unreadable = stop 1
+move (suc zero) f w Unreadable = stop (recordRefusal Unreadable)
 move (suc (suc n)) f w (Loop p q r) = stop 2
 move (suc (suc n)) f w (Start g v) = stop 2
 move (suc (suc n)) f w (Begin q k c) = stop 4
@@ -80,7 +81,7 @@ move (suc (suc n)) f w (Access m g) =
 move (suc (suc n)) f w End =
     unless (suits (kernelOf w (openTask w)) (countBelow (openCount w) (isRead w (openTask w)))) 9
     (go 1 f w)
-move (suc (suc n)) f w Unreadable = stop 1
+move (suc (suc n)) f w Unreadable = stop (recordRefusal Unreadable)
 
 abbrev pub endOf : ℕ → ℕ → List ℕ → Reading
 endOf n zero w = refused 2 n
@@ -93,8 +94,8 @@ onMove n k (go p f w) = k p f w
 onMove n k (stop why) = refused why n
 
 abbrev pub machineFrom : ℕ → ℕ → List ℕ → List ℕ → List (List ℕ) → Reading
-machineFrom n p f w [] = refused 1 n
-machineFrom n p f w (l ∷ []) = cond (isEmpty l) (endOf n p w) (refused 1 n)
+machineFrom n p f w [] = refused (lineRefusal Unended) n
+machineFrom n p f w (l ∷ []) = cond (isEmpty l) (endOf n p w) (refused (lineRefusal Unended) n)
 machineFrom n p f w (l ∷ m ∷ ls) = onMove n (λ p′ f′ w′. machineFrom (n + 1) p′ f′ w′ (m ∷ ls)) (move p f w (recordOf l))
 
 unfoldable pub machineOf : List ℕ → Reading

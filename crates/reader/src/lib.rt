@@ -11,7 +11,7 @@ ghost use Rattle.text.specs.declared.Record.{Record};
 ghost use Rattle.finite.specs.Below.{anyBelow};
 ghost use Rattle.plan.specs.Layout.{planWords, regionAt, regionsOf, tasksOf};
 ghost use Rattle.plan.specs.Form.{inForm, wordsOk};
-ghost use Rattle.plan.specs.Limits.{maxAccesses, maxBytes, maxRegions, maxTasks};
+ghost use Rattle.plan.specs.Limits.{maxAccesses, maxBytes, maxKernel, maxRegions, maxTasks};
 ghost use Rattle.reading.specs.Plan.{modeWord};
 ghost use Rattle.reading.specs.Reading.{below, lies, readOf, refused, valueOf};
 ghost use Rattle.reader.specs.Answer.{Reads};
@@ -36,7 +36,6 @@ use plan::layout::kernel_of;
 use plan::layout::read_count;
 use plan::limits::MAX_ACCESSES;
 use plan::limits::MAX_BYTES;
-use plan::limits::MAX_KERNEL;
 use plan::limits::MAX_PASSES;
 use plan::limits::MAX_RANKS;
 use plan::limits::MAX_REGIONS;
@@ -78,6 +77,17 @@ fn is_within(lowest: u64, highest: u64, x: Number) -> bool
 {
     match x {
         Number::Value(v) => (lowest <= v) & (v <= highest),
+        Number::TooLarge => false,
+        Number::Malformed => false,
+    }
+}
+
+// Whether a number of the text is a kernel's.
+fn is_kernel(x: Number) -> bool
+    ensures { λ r. ⌜ r ≡ lies 0 maxKernel x ⌝ }
+{
+    match x {
+        Number::Value(v) => kernels::is_kernel(v),
         Number::TooLarge => false,
         Number::Malformed => false,
     }
@@ -174,7 +184,7 @@ fn take_begin(words: &mut [u64], rank: Number, kernel: Number, constant: Number)
     if !is_below(ranks, rank) {
         return Step::Stop(3);
     }
-    if !is_within(0, MAX_KERNEL, kernel) {
+    if !is_kernel(kernel) {
         return Step::Stop(3);
     }
     if !is_within(0, MAX_WORD, constant) {

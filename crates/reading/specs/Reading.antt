@@ -9,6 +9,8 @@ use Rattle.text.specs.declared.Number.the-variants.{Value, TooLarge, Malformed}
 use Rattle.text.specs.declared.Mode.{Mode}
 use Rattle.text.specs.declared.Record.{Record}
 use Rattle.text.specs.declared.Record.the-variants.{Loop, Begin, End, Unreadable}
+use Rattle.text.specs.declared.RecordAt.{RecordAt}
+use Rattle.text.specs.declared.RecordAt.the-variants.{Line, Unended}
 use Rattle.text.specs.Records.{split, recordOf}
 use Rattle.finite.specs.Lists.{mem}
 use Rattle.kernels.specs.Kernels.{suits}
@@ -76,6 +78,20 @@ abbrev pub withAccess : Task → Mode → ℕ → Task
 withAccess t m g =
     record { rank = t .rank; kernel = t .kernel; constant = t .constant; accesses = t .accesses ++ (record { mode = m; region = g } ∷ []) }
 
+-- the refusal that a record is by itself; 0 where what was read before it decides
+abbrev pub recordRefusal : Record → ℕ
+recordRefusal (Loop p q n) = 0
+recordRefusal (Record.Start g v) = 0
+recordRefusal (Begin q k c) = 0
+recordRefusal (Record.Access m g) = 0
+recordRefusal End = 0
+recordRefusal Unreadable = 1
+
+-- the same of a line, or of bytes that no line feed ends
+abbrev pub lineRefusal : RecordAt → ℕ
+lineRefusal (Line r at) = recordRefusal r
+lineRefusal Unended = 1
+
 -- what a record does. Within a line: 1, 2, 4 or 5, 3 from left to right, 10, 6, 9
 abbrev pub step : State → Record → Step
 step first (Loop p q n) =
@@ -87,7 +103,7 @@ step first (Record.Start g v) = refuse 2
 step first (Begin q k c) = refuse 2
 step first (Record.Access m g) = refuse 2
 step first End = refuse 2
-step first Unreadable = refuse 1
+step first Unreadable = refuse (recordRefusal Unreadable)
 step (closed P) (Loop p q n) = refuse 2
 step (closed P) (Record.Start g v) =
     need (noTaskYet P) 2
@@ -103,7 +119,7 @@ step (closed P) (Begin q k c) =
     (next (opened P (newTask (valueOf q) (valueOf k) (valueOf c)))))))
 step (closed P) (Record.Access m g) = refuse 5
 step (closed P) End = refuse 5
-step (closed P) Unreadable = refuse 1
+step (closed P) Unreadable = refuse (recordRefusal Unreadable)
 step (opened P t) (Loop p q n) = refuse 2
 step (opened P t) (Record.Start g v) = refuse 2
 step (opened P t) (Begin q k c) = refuse 4
@@ -115,7 +131,7 @@ step (opened P t) (Record.Access m g) =
 step (opened P t) End =
     need (suits (t .kernel) (readCount (t .accesses))) 9
     (next (closed (withTask P t)))
-step (opened P t) Unreadable = refuse 1
+step (opened P t) Unreadable = refuse (recordRefusal Unreadable)
 
 abbrev pub isEmpty : List ℕ → Bool
 isEmpty [] = true
@@ -136,8 +152,8 @@ onStep n k (refuse why) = refused why n
 
 -- the lines from line n on: what follows the last line feed is the last of the pieces, and must be empty
 abbrev pub readFrom : ℕ → State → List (List ℕ) → Reading
-readFrom n s [] = refused 1 n
-readFrom n s (l ∷ []) = cond (isEmpty l) (atEnd n s) (refused 1 n)
+readFrom n s [] = refused (lineRefusal Unended) n
+readFrom n s (l ∷ []) = cond (isEmpty l) (atEnd n s) (refused (lineRefusal Unended) n)
 readFrom n s (l ∷ m ∷ ls) = onStep n (λ s′. readFrom (n + 1) s′ (m ∷ ls)) (step s (recordOf l))
 
 -- the pieces between the line feeds, the first being line 1
