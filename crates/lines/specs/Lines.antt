@@ -9,11 +9,11 @@ use Rattle.edges.specs.Rule.{Triple}
 use Rattle.reading.specs.Written.{decimal}
 
 -- a space, and a 64-bit number in decimal
-abbrev pub field : ℕ → List ℕ
+unfoldable pub field : ℕ → List ℕ
 field n = 32 ∷ decimal 19 n
 
 -- a space, and the word of a kind: `task`, `send`, `receive`
-abbrev pub kindField : ℕ → List ℕ
+unfoldable pub kindField : ℕ → List ℕ
 kindField kind =
     cond (eqb kind 0) (ascii " task") (cond (eqb kind 1) (ascii " send") (ascii " receive"))
 

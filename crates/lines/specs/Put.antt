@@ -4,6 +4,7 @@ use Prim.Native.Nat.{ℕ, _+_, _*_, _≤_}
 use mathlib.Core.Path.{_≡_}
 use mathlib.Core.List.{List, _++_}
 use lib.ListN.{length, drop, getD}
+use lib.Seq.{sets}
 use Rattle.finite.specs.Lists.{collect}
 use Rattle.plan.specs.Code.{codeRank, codeKind}
 use Rattle.lines.specs.Lines.{itemLine, edgeLine, valueLine}
@@ -18,14 +19,37 @@ pub record Put (bytes out : List ℕ) (r : ℕ) (out′ : List ℕ) : Type 0 whe
 abbrev pub Room : List ℕ → List ℕ → Type 0
 Room bytes out = length bytes ≤ length out
 
+-- the bytes are stored from an offset on, and the rest of the slice is as it was; the answer is the
+-- offset behind them
+pub record Added (bytes : List ℕ) (at : ℕ) (out : List ℕ) (r : ℕ) (out′ : List ℕ) : Type 0 where
+  pub end : r ≡ at + length bytes
+  pub size : length out′ ≡ length out
+  pub stored : out′ ≡ sets out at bytes
+
+-- there is room for the bytes from an offset on
+pub record RoomAt (bytes : List ℕ) (at : ℕ) (out : List ℕ) : Type 0 where
+  pub fits : at + length bytes ≤ length out
+
+-- the line of item a by the numbers of an item table
+unfoldable pub itemLineAt : List ℕ → ℕ → List ℕ
+itemLineAt table a = itemLine a (codeKind (getD table a 0)) (codeRank (getD table a 0))
+
+-- the line of edge k of a list with three numbers an edge
+unfoldable pub edgeLineAt : List ℕ → ℕ → List ℕ
+edgeLineAt list k = edgeLine (getD list (3 * k) 0, getD list (3 * k + 1) 0, getD list (3 * k + 2) 0)
+
+-- the line of region g
+unfoldable pub valueLineAt : List ℕ → ℕ → List ℕ
+valueLineAt words g = valueLine g (getD words g 0)
+
 -- n items by the numbers of an item table
-unfoldable pub tableLines : List ℕ → ℕ → List ℕ
-tableLines table n = collect n (λ a. itemLine a (codeKind (getD table a 0)) (codeRank (getD table a 0)))
+abbrev pub tableLines : List ℕ → ℕ → List ℕ
+tableLines table n = collect n (itemLineAt table)
 
 -- m edges of a list with three numbers an edge
-unfoldable pub listLines : List ℕ → ℕ → List ℕ
-listLines list m = collect m (λ k. edgeLine (getD list (3 * k) 0, getD list (3 * k + 1) 0, getD list (3 * k + 2) 0))
+abbrev pub listLines : List ℕ → ℕ → List ℕ
+listLines list m = collect m (edgeLineAt list)
 
 -- the words of n regions
-unfoldable pub wordLines : List ℕ → ℕ → List ℕ
-wordLines words n = collect n (λ g. valueLine g (getD words g 0))
+abbrev pub wordLines : List ℕ → ℕ → List ℕ
+wordLines words n = collect n (valueLineAt words)

@@ -50,7 +50,13 @@ pub fn narrow_8(x: u64) -> u8
     x as u8
 }
 
-// A number of 32 bits as an index, and back.
+// A number of 32 bits as a word and as an index, and back.
+pub fn wide_32(x: u32) -> u64
+    ensures { λ r. ⌜ r ≡ x ⌝ }
+{
+    x as u64
+}
+
 pub fn index_32(x: u32) -> usize
     ensures { λ r. ⌜ r ≡ x ⌝ }
 {
