@@ -1,14 +1,16 @@
 -- Laws of collect, and of lists mapped.
-use Prim.Native.Nat.{ℕ, zero, suc, _+_, _≤_, _<_}
-use mathlib.Core.Path.{_≡_, refl, sym, _∙_, ap, ap₂}
+use Prim.Native.Nat.{ℕ, zero, suc, _+_, _*_, _≤_, _<_}
+use mathlib.Core.Path.{_≡_, refl, sym, _∙_, ap, ap₂, subst}
 use mathlib.Core.Bool.{Bool, true, false, cond}
-use mathlib.Core.List.{List, [], _∷_, _++_, map, flatMap, append-nil}
+use mathlib.Core.List.{List, [], _∷_, _++_, map, flatMap, append-assoc, append-nil}
 use native.Mathlib.Decide.{decLt, ℕ-discrete}
 use native.Mathlib.Numerals.{add-one}
 use native.Mathlib.Omega.{arith}
 use lib.ListN.{length, getD, length-append}
+use Rattle.finite.specs.Below.{sumBelow}
 use Rattle.finite.specs.Lists.{range, gather, collect}
-use Rattle.finite.proofs.Lists.{flatMap-append, flatMap-range}
+use Rattle.finite.proofs.Below.{sum-le, sum-const}
+use Rattle.finite.proofs.Lists.{flatMap-append, flatMap-range, length-flatMap-range}
 use Rattle.finite.proofs.Tabulate.{map-append}
 
 module _ {X : Type 0} where
@@ -20,6 +22,16 @@ module _ {X : Type 0} where
   unfolding collect range flatMap
   collect-range zero f = refl
   collect-range (suc n) f = ap (λ l. l ++ f n) (collect-range n f) ∙ sym (flatMap-range f n)
+
+  collect-first : (n : ℕ) (f : ℕ → List X) → collect (suc n) f ≡ f 0 ++ collect n (λ k. f (suc k))
+  unfolding collect
+  collect-first zero f = sym (append-nil (f 0))
+  collect-first (suc n) f = ap (λ (l : List X). l ++ f (suc n)) (collect-first n f) ∙ append-assoc (f 0) (collect n (λ k. f (suc k))) (f (suc n))
+
+  pub collect-most : (n m : ℕ) (f : ℕ → List X) → ((k : ℕ) → k < n → length (f k) ≤ m) → length (collect n f) ≤ n * m
+  collect-most n m f h =
+      subst (λ (x : ℕ). length (collect n f) ≤ x) (sum-const n m)
+      (subst (λ (x : ℕ). x ≤ sumBelow n (λ k. m)) (sym (ap length (collect-range n f) ∙ length-flatMap-range f n)) (sum-le n (λ k. length (f k)) (λ k. m) h))
 
   pub collect-ext : (n : ℕ) (f g : ℕ → List X) → ((k : ℕ) → k < n → f k ≡ g k) → collect n f ≡ collect n g
   unfolding collect
@@ -89,3 +101,8 @@ map-gather {X} {Y} g (suc n) p f = map-append g (gather n p f) (cond (p n) (f n 
     one : (b : Bool) → map g (cond b (f n ∷ []) []) ≡ cond b (g (f n) ∷ []) []
     one true = refl
     one false = refl
+
+pub flatMap-at : {X Y : Type 0} (f : X → List Y) (l : List X) (d : X) → flatMap f l ≡ collect (length l) (λ k. f (getD l k d))
+unfolding flatMap collect
+flatMap-at f [] d = refl
+flatMap-at f (x ∷ l) d = ap (λ r. f x ++ r) (flatMap-at f l d) ∙ sym (collect-first (length l) (λ k. f (getD (x ∷ l) k d)))

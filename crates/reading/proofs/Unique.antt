@@ -20,7 +20,8 @@ use mathlib.Core.Logic.{⊎-elim, _⊎_, inl, inr}
 use Rattle.finite.proofs.Tests.{and-intro, and-true, not-both}
 use Rattle.text.specs.Numbers.{allDigits, decimalAfter, isDigit, noLeadingZero, numberOf, wellFormed}
 use Rattle.text.specs.Records.{accessOf, beginOf, byWord, loopOf, ofFields, oneOf, onto, pair, recordOf, sound, split, startOf, threeOf, twoOf}
-use Rattle.text.specs.Words.{alike, keywordOf, wordBegin, wordEnd, wordIn, wordInout, wordLoop, wordOut, wordStart}
+use Rattle.text.specs.Ascii.{ascii}
+use Rattle.text.specs.Words.{alike, keywordOf}
 use Rattle.text.proofs.SplitLaws.{rest, split-cons}
 use Rattle.text.proofs.WordLaws.{alike-same}
 use Rattle.plan.specs.Layout.{at}
@@ -141,13 +142,13 @@ number-back f h = by (wellFormed f) refl
 
 -- the fields of a record's line
 abbrev wordOf : Keyword → List ℕ
-wordOf Keyword.Loop = wordLoop
-wordOf Keyword.Start = wordStart
-wordOf Keyword.Begin = wordBegin
-wordOf Keyword.In = wordIn
-wordOf Keyword.Out = wordOut
-wordOf Keyword.Inout = wordInout
-wordOf Keyword.End = wordEnd
+wordOf Keyword.Loop = ascii "loop"
+wordOf Keyword.Start = ascii "start"
+wordOf Keyword.Begin = ascii "begin"
+wordOf Keyword.In = ascii "in"
+wordOf Keyword.Out = ascii "out"
+wordOf Keyword.Inout = ascii "inout"
+wordOf Keyword.End = ascii "end"
 wordOf Keyword.Unknown = []
 
 abbrev fieldsOf : Record → List (List ℕ)

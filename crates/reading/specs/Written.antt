@@ -8,7 +8,7 @@ use Rattle.text.specs.declared.Number.the-variants.{Value, TooLarge, Malformed}
 use Rattle.text.specs.declared.Mode.{Mode}
 use Rattle.text.specs.declared.Record.{Record}
 use Rattle.text.specs.declared.Record.the-variants.{Loop, Begin, End, Unreadable}
-use Rattle.text.specs.Words.{wordBegin, wordEnd, wordIn, wordInout, wordLoop, wordOut, wordStart}
+use Rattle.text.specs.Ascii.{ascii}
 use Rattle.reading.specs.Plan.{Access, Plan, Start, Task, planOf}
 
 -- n in decimal, for n below 10 to the k + 1
@@ -24,13 +24,13 @@ digits Malformed = []
 
 -- the line of a record, without its line feed
 abbrev pub line : Record → List ℕ
-line (Loop p q n) = wordLoop ++ (9 ∷ (digits p ++ (9 ∷ (digits q ++ (9 ∷ digits n)))))
-line (Record.Start g v) = wordStart ++ (9 ∷ (digits g ++ (9 ∷ digits v)))
-line (Begin q k c) = wordBegin ++ (9 ∷ (digits q ++ (9 ∷ (digits k ++ (9 ∷ digits c)))))
-line (Record.Access Mode.In g) = wordIn ++ (9 ∷ digits g)
-line (Record.Access Mode.Out g) = wordOut ++ (9 ∷ digits g)
-line (Record.Access Mode.Inout g) = wordInout ++ (9 ∷ digits g)
-line End = wordEnd
+line (Loop p q n) = ascii "loop" ++ (9 ∷ (digits p ++ (9 ∷ (digits q ++ (9 ∷ digits n)))))
+line (Record.Start g v) = ascii "start" ++ (9 ∷ (digits g ++ (9 ∷ digits v)))
+line (Begin q k c) = ascii "begin" ++ (9 ∷ (digits q ++ (9 ∷ (digits k ++ (9 ∷ digits c)))))
+line (Record.Access Mode.In g) = ascii "in" ++ (9 ∷ digits g)
+line (Record.Access Mode.Out g) = ascii "out" ++ (9 ∷ digits g)
+line (Record.Access Mode.Inout g) = ascii "inout" ++ (9 ∷ digits g)
+line End = ascii "end"
 line Unreadable = []
 
 abbrev pub startRecords : List Start → List Record

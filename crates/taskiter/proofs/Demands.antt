@@ -9,10 +9,8 @@ use lib.ListN.{length, getD, take, drop, replicate}
 use lib.Seq.{take-at}
 use Rattle.body.specs.Transfers.{transferCount}
 use Rattle.body.proofs.Theorems.{laws as body-laws}
-use Rattle.edges.proofs.Decided.{edge-decided}
 use Rattle.plan.specs.Limits.{maxBytes, maxTransfers, maxWord}
 use Rattle.plan.specs.Layout.{planWords, bodyOf}
-use Rattle.plan.proofs.Facts.{formed}
 use Rattle.text.specs.Records.{split}
 use Rattle.reading.specs.Plan.{Plan, wordsOf}
 use Rattle.reading.specs.Reading.{Reading, accepted as readTo, refused as notRead, readOf}
@@ -22,7 +20,7 @@ use Rattle.reading.proofs.Theorems.{laws as reading-laws}
 use Rattle.reader.specs.declared.Answer.{Answer}
 use Rattle.reader.specs.Answer.{Reads, answerOf, leftIn}
 use Rattle.graph.specs.Answers.{planBody}
-use Rattle.graph.proofs.Small.{form-words, plan-fits}
+use Rattle.graph.proofs.Small.{plan-fits}
 use Rattle.steps.specs.State.{countWords, valueWords}
 use Rattle.steps.specs.Answers.{openOf}
 use Rattle.steps.specs.Calls.{lentBy, play}
@@ -112,8 +110,6 @@ module _ (plan counts values : List ℕ) (words : (i : ℕ) → getD plan i 0 �
   steps =
       record {
         items = λ R. body-laws .meaning (planBody plan) (plan-fits (take planWords plan) (ready-form plan counts values R));
-        edges = λ R. edge-decided (planBody plan) (plan-fits (take planWords plan) (ready-form plan counts values R))
-            (formed (take planWords plan) (form-words (take planWords plan) (ready-form plan counts values R)) .regions-most);
         own-rank = own-rank plan counts values;
         room = room plan counts values;
         held-apart = held-apart plan counts values;

@@ -11,7 +11,6 @@ use lib.ListN.{length, getD, set, take, drop, replicate}
 use Rattle.finite.specs.Lists.{mem}
 use Rattle.unroll.specs.System.{Accesses}
 use Rattle.unroll.specs.Sequential.{wordOn}
-use Rattle.unroll.specs.Edges.{Edge}
 use Rattle.unroll.specs.Machine.{State, CanFinish}
 use Rattle.unroll.specs.Meaning.{StartRule}
 use Rattle.body.specs.Body.{Body, firstSlot}
@@ -20,7 +19,6 @@ use Rattle.body.specs.Transfers.{transferCount}
 use Rattle.body.specs.Items.{send, writer, itemRank, itemCount, itemAt}
 use Rattle.body.specs.Places.{slot, copy, system}
 use Rattle.body.specs.Meaning.{LastWriter, Meaning}
-use Rattle.edges.specs.Tests.{distance, edgeTest}
 use Rattle.plan.specs.Limits.{maxBytes, maxTransfers, maxWord}
 use Rattle.plan.specs.Layout.{planWords, bodyOf}
 use Rattle.text.specs.Records.{split}
@@ -182,11 +180,8 @@ pub record SameUsed (B : Body) (s t : Lent) : Type 0 where
 
 -- for every lent plan of 64-bit words, and every lent state
 pub record Steps (plan counts values : List ℕ) : Type 0 where
-  -- the items are the paper's, and an edge stands exactly where the rule puts one, transfers included: `edgeTest` is what the waits of a start
-  -- and the list of edges go by
+  -- the items are the paper's
   pub items : PlanReady plan counts values → Meaning (planBody plan)
-  pub edges : PlanReady plan counts values → (a b d : ℕ) → a < itemCount (planBody plan) → b < itemCount (planBody plan) →
-      Edge (system (planBody plan)) a b d ↔ ((d ≡ distance a b) × (edgeTest (planBody plan) a b ≡ true))
   -- an item accesses copies of its own rank and of no other
   pub own-rank : PlanReady plan counts values → (a x : ℕ) → a < itemCount (planBody plan) → Accesses (system (planBody plan)) a x → x < firstSlot →
       (g : ℕ) × (g < planBody plan .regions) × (x ≡ copy (planBody plan) (itemRank (planBody plan) (itemAt (planBody plan) a)) g)

@@ -8,7 +8,8 @@ use borrow.Author.Tests.{eq-eqb, ne-eqb, eqb-true}
 use lib.ListN.{length, getD, drop, drop-of-length-le}
 use lib.Seq.{drop-cons}
 use lib.Dec.{eqb}
-use Rattle.text.specs.Words.{wordLoop, wordStart, wordBegin, wordIn, wordOut, wordInout, wordEnd, alike, keywordOf}
+use Rattle.text.specs.Ascii.{ascii}
+use Rattle.text.specs.Words.{alike, keywordOf}
 use Rattle.text.specs.declared.Keyword.{Keyword}
 use Rattle.text.specs.declared.Keyword.the-variants.{Loop, Start, Begin, In, Out, Inout, End}
 
@@ -40,30 +41,30 @@ alike-same (x ∷ a) (y ∷ b) e =
 pub keyword-same : (f w : List ℕ) {k : Keyword} (r : Bool) → keywordOf w ≡ k → r ≡ alike f w → r ≡ true → k ≡ keywordOf f
 keyword-same f w r e p q = rw (alike-same f w (sym p ∙ q)) (sym e)
 
-pub keyword-loop : keywordOf wordLoop ≡ Loop
+pub keyword-loop : keywordOf (ascii "loop") ≡ Loop
 unfolding keywordOf
 keyword-loop = refl
 
-pub keyword-start : keywordOf wordStart ≡ Start
+pub keyword-start : keywordOf (ascii "start") ≡ Start
 unfolding keywordOf
 keyword-start = refl
 
-pub keyword-begin : keywordOf wordBegin ≡ Begin
+pub keyword-begin : keywordOf (ascii "begin") ≡ Begin
 unfolding keywordOf
 keyword-begin = refl
 
-pub keyword-in : keywordOf wordIn ≡ In
+pub keyword-in : keywordOf (ascii "in") ≡ In
 unfolding keywordOf
 keyword-in = refl
 
-pub keyword-out : keywordOf wordOut ≡ Out
+pub keyword-out : keywordOf (ascii "out") ≡ Out
 unfolding keywordOf
 keyword-out = refl
 
-pub keyword-inout : keywordOf wordInout ≡ Inout
+pub keyword-inout : keywordOf (ascii "inout") ≡ Inout
 unfolding keywordOf
 keyword-inout = refl
 
-pub keyword-end : keywordOf wordEnd ≡ End
+pub keyword-end : keywordOf (ascii "end") ≡ End
 unfolding keywordOf
 keyword-end = refl

@@ -2,3 +2,4 @@ pub mod Cases
 pub mod Read
 pub mod Drawn
 pub mod Table
+pub mod Printed

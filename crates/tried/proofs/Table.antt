@@ -29,6 +29,7 @@ use Rattle.taskiter.specs.Demands.{of-start, of-finish, Ready, Opened, OpenMade
 use Rattle.taskiter.proofs.Demands.{demands}
 use Rattle.tried.specs.Table.{example, exampleWords, noPass, Fresh, Accepts, after, Table}
 use Rattle.tried.proofs.Read.{example-read, no-pass-read, readers-read, second-begin, named-twice}
+use Rattle.tried.proofs.Printed.{printed}
 use Rattle.tried.proofs.Drawn.{example-items, final-two, final-none, first-word}
 
 module _ (D : Demands) where
@@ -195,6 +196,7 @@ module _ (D : Demands) where
   from-demands =
       record {
         example-read = example-read;
+        printed = printed;
         no-pass-read = no-pass-read;
         readers-read = readers-read;
         case-a = two-ranks-edges;

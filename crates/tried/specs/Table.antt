@@ -12,6 +12,7 @@ use Rattle.reading.specs.Reading.{readOf, accepted as readTo, refused}
 use Rattle.steps.specs.State.{countWords, valueWords}
 use Rattle.steps.specs.Answers.{Left, openOf}
 use Rattle.text.specs.Ascii.{ascii}
+use Rattle.report.specs.Report.{linesOf}
 use Rattle.steps.specs.Calls.{Call, start, finish, result, isStep, Lent, lentBy, call, play, accepted}
 
 -- the example on two ranks ("The run program") with 2 passes, and with none
@@ -74,6 +75,11 @@ pub record Table : Type 0 where
   pub case-c : (plan : List ℕ) (s : Lent) → Fresh 0 plan s → (l : List Call) →
       Accepts (after plan s l (result 0)) 5 × Accepts (after plan s l (result 1)) 0 × (accepted plan isStep s l ≡ 0)
       × (after plan s l (start 0) .refusal ≡ 14)
+  -- what the run program prints for the example, whole
+  pub printed : linesOf example ≡
+      ascii "item 0 task 0\nitem 1 send 0\nitem 2 receive 1\nitem 3 task 1\n"
+      ++ (ascii "edge 0 0 1\nedge 0 1 0\nedge 1 0 1\nedge 1 1 1\nedge 1 2 0\nedge 2 1 1\nedge 2 2 1\nedge 2 3 0\n"
+      ++ ascii "edge 3 2 1\nedge 3 3 1\nsteps 16\nvalue 0 7\nvalue 1 13\n")
   -- D kernel 3 on four times 2^64 - 1, E on 1, 1, 1, 0
   pub case-d : (c : ℕ) → kernelWord 3 c ((2 ^ 64 - 1) ∷ (2 ^ 64 - 1) ∷ (2 ^ 64 - 1) ∷ (2 ^ 64 - 1) ∷ []) ≡ 2 ^ 64 - 1
   pub case-e : (c : ℕ) → kernelWord 3 c (1 ∷ 1 ∷ 1 ∷ 0 ∷ []) ≡ 0

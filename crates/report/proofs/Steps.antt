@@ -1,0 +1,193 @@
+-- The steps from a state: each is the one that comes next, and from an opening they lead to the end.
+use Prim.Native.Nat.{ℕ, zero, suc, _+_, _*_, _≤_, _<_}
+use mathlib.Core.Path.{_≡_, refl, _∙_, ap, subst}
+use mathlib.Core.Bool.{Bool, true, false, cond}
+use mathlib.Core.Logic.{_⊎_, inl, inr}
+use mathlib.Core.List.{List, [], _∷_, _++_, append-nil}
+use mathlib.Core.Option.{Option, none, some, Option·map, orElse}
+use native.Mathlib.Decide.{decLt}
+use native.Mathlib.Nat.{mul-le-mul}
+use native.Mathlib.Omega.{arith}
+use borrow.Author.Tests.{eqb-true, eq-eqb}
+use lib.ListN.{length, take}
+use Rattle.finite.proofs.Tests.{not-both}
+use Rattle.body.specs.Loop.{loopFinal}
+use Rattle.body.specs.Items.{itemCount}
+use Rattle.plan.specs.Limits.{maxPasses}
+use Rattle.plan.specs.Sizes.{maxItems}
+use Rattle.plan.specs.Layout.{planWords}
+use Rattle.plan.proofs.Facts.{formed}
+use Rattle.graph.specs.Answers.{planBody}
+use Rattle.graph.proofs.Small.{form-words}
+use Rattle.graph.proofs.Theorems.{laws as graph-laws}
+use Rattle.steps.specs.State.{stateOf}
+use Rattle.steps.specs.Answers.{openOf, resultOf}
+use Rattle.steps.specs.Calls.{Call, start, finish, result, isStep, Lent, lentBy, call, isAccepted, play, accepted}
+use Rattle.steps.specs.Running.{Accepts, Next, Taken}
+use Rattle.steps.specs.Turns.{Over}
+use Rattle.steps.proofs.Accepting.{open-accepted, start-clear, start-rule, finish-clear, finish-can}
+use Rattle.steps.proofs.Running.{taken-accepted}
+use Rattle.taskiter.specs.Demands.{AtEnd, InAnyOrder, Complete}
+use Rattle.taskiter.proofs.AnyOrder.{open-order}
+use Rattle.report.specs.Report.{lowest, nextStep, followed, stepsFrom, mostSteps}
+
+-- what is known of the lowest number that t picks below n
+abbrev Lowest : ℕ → (ℕ → Bool) → Option ℕ → Type 0
+Lowest n t none = (b : ℕ) → b < n → t b ≡ false
+Lowest n t (some a) = (t a ≡ true) × ((b : ℕ) → b < a → t b ≡ false)
+
+lowest-is : (n : ℕ) (t : ℕ → Bool) → Lowest n t (lowest n t)
+unfolding lowest orElse
+lowest-is zero t = λ b l. absurd (omega arith)
+lowest-is (suc n) t = more (lowest n t) (t n) refl (lowest-is n t)
+  where
+    more : (o : Option ℕ) (x : Bool) → t n ≡ x → Lowest n t o → Lowest (suc n) t (orElse o (cond x (some n) none))
+    more (some a) x e h = h
+    more none true e h = (e, h)
+    more none false e h = λ b l.
+        elim (decLt b n) [
+          | yes k ↦ h b k
+          | no k ↦ (let i : b ≡ n = omega arith in ap t i ∙ e)
+        ]
+
+module _ (plan : List ℕ) where
+  -- a step that is accepted is an item's
+  finish-below : (s : Lent) (a : ℕ) → Accepts plan s (finish a) → a < itemCount (planBody plan)
+  finish-below s a h = finish-can plan (s .counts) (s .values) (finish-clear plan (s .counts) (s .values) a h) a .0 h .in-range
+
+  start-below : (s : Lent) (a : ℕ) → Accepts plan s (start a) → a < itemCount (planBody plan)
+  start-below s a h = start-rule plan (s .counts) (s .values) (start-clear plan (s .counts) (s .values) a h) a .0 h .in-range
+
+  test-false : (s : Lent) (c : Call) → isAccepted plan s c ≡ false → Accepts plan s c → ⊥
+  test-false s c e h = not-both (eq-eqb (call plan s c .refusal) 0 h) e
+
+  -- what is known of the step that comes next
+  abbrev NextIs : Lent → Option Call → Type 0
+  NextIs s none = Over plan s
+  NextIs s (some c) = Next plan s c
+
+  module _ (s : Lent) where
+    abbrev n : ℕ
+    n = itemCount (planBody plan)
+
+    abbrev finishes : ℕ → Bool
+    finishes a = isAccepted plan s (finish a)
+
+    abbrev starts : ℕ → Bool
+    starts a = isAccepted plan s (start a)
+
+    no-finish : Lowest n finishes none → (b : ℕ) → Accepts plan s (finish b) → ⊥
+    no-finish f b h = test-false s (finish b) (f b (finish-below s b h)) h
+
+    no-step : Lowest n finishes none → Lowest n starts none → Over plan s
+    no-step f h (start a) z x = test-false s (start a) (h a (start-below s a x)) x
+    no-step f h (finish a) z x = no-finish f a x
+    no-step f h (result g) z x = not-both z refl
+
+    next-by : (f g : Option ℕ) → Lowest n finishes f → Lowest n starts g → NextIs s (orElse (Option·map finish f) (Option·map start g))
+    unfolding orElse
+    next-by (some a) g f h = (eqb-true (call plan s (finish a) .refusal) 0 (f .0), λ b l. test-false s (finish b) (f .1 b l))
+    next-by none (some a) f h = (eqb-true (call plan s (start a) .refusal) 0 (h .0), no-finish f, λ b l. test-false s (start b) (h .1 b l))
+    next-by none none f h = no-step f h
+
+    next-is : NextIs s (nextStep plan s)
+    unfolding nextStep
+    next-is = next-by (lowest n finishes) (lowest n starts) (lowest-is n finishes) (lowest-is n starts)
+
+  pub steps-taken : (n : ℕ) (s : Lent) → Taken plan s (stepsFrom plan n s)
+  unfolding stepsFrom Taken
+  steps-taken zero s = tt
+  steps-taken (suc n) s = go (nextStep plan s) (next-is s) (steps-taken n)
+    where
+      go : (o : Option Call) → NextIs s o → ((t : Lent) → Taken plan t (stepsFrom plan n t)) → Taken plan s (followed plan s (stepsFrom plan n) o)
+      go none h rest = tt
+      go (some c) h rest = (h, rest (lentBy (call plan s c)))
+
+  -- they stop where no step is accepted, or are as many as they may be
+  steps-stop : (n : ℕ) (s : Lent) → Over plan (play plan s (stepsFrom plan n s)) ⊎ (length (stepsFrom plan n s) ≡ n)
+  unfolding stepsFrom play
+  steps-stop zero s = inr refl
+  steps-stop (suc n) s = go (nextStep plan s) (next-is s) (steps-stop n)
+    where
+      go : (o : Option Call) → NextIs s o → ((t : Lent) → Over plan (play plan t (stepsFrom plan n t)) ⊎ (length (stepsFrom plan n t) ≡ n)) →
+          Over plan (play plan s (followed plan s (stepsFrom plan n) o)) ⊎ (length (followed plan s (stepsFrom plan n) o) ≡ suc n)
+      go none h rest = inl h
+      go (some c) h rest = on (rest (lentBy (call plan s c)))
+        where
+          on : Over plan (play plan (lentBy (call plan s c)) (stepsFrom plan n (lentBy (call plan s c)))) ⊎ (length (stepsFrom plan n (lentBy (call plan s c))) ≡ n) →
+              Over plan (play plan s (c ∷ stepsFrom plan n (lentBy (call plan s c)))) ⊎ (length (c ∷ stepsFrom plan n (lentBy (call plan s c))) ≡ suc n)
+          on (inl o) = inl o
+          on (inr e) = inr (ap suc e)
+
+  accepted-append : (t : Call → Bool) (s : Lent) (l k : List Call) → accepted plan t s (l ++ k) ≡ accepted plan t s l + accepted plan t (play plan s l) k
+  unfolding accepted play
+  accepted-append t s [] k = omega arith
+  accepted-append t s (c ∷ l) k = rw (accepted-append t (lentBy (call plan s c)) l k) (omega arith)
+
+  one-most : (x y : Bool) → cond x (cond y 1 0) 0 ≤ 1
+  one-most true true = omega arith
+  one-most true false = omega arith
+  one-most false y = omega arith
+
+  accepted-most : (t : Call → Bool) (s : Lent) (l : List Call) → accepted plan t s l ≤ length l
+  unfolding accepted
+  accepted-most t s [] = omega arith
+  accepted-most t s (c ∷ l) = omega (arith, one-most (isAccepted plan s c) (t c), accepted-most t (lentBy (call plan s c)) l)
+
+  -- where no step is accepted, no list of steps is
+  over-none : (s : Lent) → Over plan s → (k : List Call) → accepted plan isStep s k ≡ length k → k ≡ []
+  unfolding accepted
+  over-none s o [] e = refl
+  over-none s o (c ∷ k) e = absurd (go (isAccepted plan s c) (isStep c) refl refl e)
+    where
+      go : (x y : Bool) → isAccepted plan s c ≡ x → isStep c ≡ y → cond x (cond y 1 0) 0 + accepted plan isStep (lentBy (call plan s c)) k ≡ suc (length k) → ⊥
+      go true true p q f = o c q (eqb-true (call plan s c .refusal) 0 p)
+      go true false p q f = omega (arith, f, accepted-most isStep (lentBy (call plan s c)) k)
+      go false y p q f = omega (arith, f, accepted-most isStep (lentBy (call plan s c)) k)
+
+-- from an accepted opening
+module _ (plan counts values : List ℕ) (opens : openOf plan counts values .refusal ≡ 0) where
+  abbrev s : Lent
+  s = lentBy (openOf plan counts values)
+
+  abbrev l : List Call
+  l = stepsFrom plan mostSteps s
+
+  order : (k : List Call) → InAnyOrder (planBody plan) plan s k
+  order = open-order plan counts values opens
+
+  pub steps-accepted : accepted plan isStep s l ≡ length l
+  steps-accepted = taken-accepted plan s l (steps-taken plan mostSteps s)
+
+  total-most : 2 * (planBody plan .passes * itemCount (planBody plan)) ≤ mostSteps
+  total-most =
+      let f = open-accepted plan counts values .0 opens .1 in
+      let p : planBody plan .passes * itemCount (planBody plan) ≤ maxPasses * maxItems =
+      mul-le-mul (formed (take planWords plan) (form-words (take planWords plan) f) .passes-most) (graph-laws .items (take planWords plan) f) in
+      omega (arith, p)
+
+  steps-end : AtEnd (planBody plan) plan s l
+  steps-end = go (order l .leads-on)
+    where
+      none-left : (k : List Call) → accepted plan isStep (play plan s l) k ≡ length k → AtEnd (planBody plan) plan s (l ++ k) →
+          Over plan (play plan s l) ⊎ (length l ≡ mostSteps) → k ≡ []
+      none-left k n e (inl o) = over-none plan (play plan s l) o k n
+      none-left [] n e (inr m) = refl
+      none-left (c ∷ k) n e (inr m) =
+          absurd (omega (arith, n, m, order (l ++ (c ∷ k)) .ends .0 e, accepted-append plan isStep s l (c ∷ k), steps-accepted, total-most))
+
+      go : (k : List Call) × (accepted plan isStep (play plan s l) k ≡ length k) × AtEnd (planBody plan) plan s (l ++ k) → AtEnd (planBody plan) plan s l
+      go (k, n, e) =
+          let z : k ≡ [] = none-left k n e (steps-stop plan mostSteps s) in
+          subst (AtEnd (planBody plan) plan s) (ap (λ (x : List Call). l ++ x) z ∙ append-nil l) e
+
+  pub steps-complete : Complete (planBody plan) (stateOf (play plan s l .counts) (play plan s l .values))
+  steps-complete a h = order l .counted a h .1 ∙ steps-end a h
+
+  pub steps-total : accepted plan isStep s l ≡ 2 * (planBody plan .passes * itemCount (planBody plan))
+  steps-total = order l .ends .0 steps-end
+
+  pub steps-results : (g : ℕ) → g < planBody plan .regions →
+      let t = play plan s l in
+      (resultOf plan (t .counts) (t .values) g .refusal ≡ 0) × (resultOf plan (t .counts) (t .values) g .word ≡ loopFinal (planBody plan) g)
+  steps-results g h = let a = order l .accepts-results g h .0 steps-end in (a, order l .final g a)
