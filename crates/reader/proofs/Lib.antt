@@ -5,3 +5,4 @@ pub mod Same
 pub mod Loops
 pub mod Moves
 pub mod Ends
+pub mod Again

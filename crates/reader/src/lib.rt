@@ -16,7 +16,8 @@ ghost use Rattle.reading.specs.Plan.{modeWord};
 ghost use Rattle.reading.specs.Reading.{below, lies, readOf, refused, valueOf};
 ghost use Rattle.reader.specs.Answer.{Reads};
 ghost use Rattle.reader.specs.Machine.{endOf, move, openCount};
-ghost use Rattle.reader.specs.Steps.{Bounds, Tells, Walked, moveOf};
+ghost use Rattle.reader.specs.Steps.{Bounds, Ready, Tells, Walked, afterLine, goesOn, moveOf, standing};
+ghost use Rattle.reader.specs.declared.Walk.{Walk};
 use form::in_form;
 use plan::layout::FIRST_ACCESS;
 use plan::layout::FIRST_CONSTANT;
@@ -41,6 +42,7 @@ use plan::limits::MAX_RANKS;
 use plan::limits::MAX_REGIONS;
 use plan::limits::MAX_TASKS;
 use plan::limits::MAX_WORD;
+use text::LineReader;
 use text::Mode;
 use text::Number;
 use text::Record;
@@ -297,10 +299,50 @@ fn take_record(phase: u64, record: Record, named: &mut [u64], words: &mut [u64])
     }
 }
 
-// What the lines lead to: a refusal at a line, or, one past the last line, a phase.
+// What the lines so far lead to: a refusal at a line, or, at the line behind them, a phase.
 enum Walk {
     Refused { why: u64, line: u64 },
     Done { phase: u64, line: u64 },
+}
+
+// Before the first line.
+fn begin_walk() -> Walk
+    ensures { λ r. ⌜ r ≡ Walk.Done 0 1 ⌝ }
+{
+    Walk::Done { phase: 0, line: 1 }
+}
+
+// Whether the walk goes on: it is not refused, and bytes are left.
+fn goes_on(walk: Walk, more: bool) -> bool
+    ensures { λ r. ⌜ r ≡ goesOn walk more ⌝ }
+{
+    match walk {
+        Walk::Refused { why: _, line: _ } => false,
+        Walk::Done { phase: _, line: _ } => more,
+    }
+}
+
+// The walk after one line more.
+fn take_line(walk: Walk, found: RecordAt, named: &mut [u64], words: &mut [u64]) -> Walk
+    requires { ⌜ Ready walk (now named) (now words) ⌝ }
+    ensures { λ r. ⌜ standing r (now (named .exit)) (now (words .exit)) ≡ afterLine walk found (now (named .entry)) (now (words .entry)) ⌝ }
+{
+    match walk {
+        Walk::Refused { why, line } => Walk::Refused { why, line },
+        Walk::Done { phase, line } => match found {
+            RecordAt::Unended => Walk::Refused { why: 1, line },
+            RecordAt::Line { record, next: _ } => {
+                let step = take_record(phase, record, named, words);
+                match step {
+                    Step::Stop(why) => Walk::Refused { why, line },
+                    Step::Go(then) => Walk::Done {
+                        phase: then,
+                        line: line + 1,
+                    },
+                }
+            }
+        },
+    }
 }
 
 // Reads the lines of a text that is not too long into flags and words that are zeros.
@@ -308,31 +350,13 @@ fn read_lines(text: &[u8], named: &mut [u64], words: &mut [u64]) -> Walk
     requires { ⌜ (length (now text) ≤ maxBytes) × (now named ≡ replicate maxRegions 0) × (now words ≡ replicate planWords 0) ⌝ }
     ensures { λ r. ⌜ Walked (now (text .entry)) r (now (words .exit)) ⌝ }
 {
-    let mut at: usize = 0;
-    let mut line: u64 = 1;
-    let mut phase: u64 = 0;
-    while at < text.len() {
-        let found = text::record_at(text, at);
-        match found {
-            RecordAt::Unended => {
-                return Walk::Refused { why: 1, line };
-            }
-            RecordAt::Line { record, next } => {
-                let step = take_record(phase, record, named, words);
-                match step {
-                    Step::Stop(why) => {
-                        return Walk::Refused { why, line };
-                    }
-                    Step::Go(then) => {
-                        phase = then;
-                        at = next;
-                        line += 1;
-                    }
-                }
-            }
-        }
+    let mut reader = LineReader::new(text);
+    let mut walk = begin_walk();
+    while goes_on(walk, reader.more()) {
+        let found = reader.next();
+        walk = take_line(walk, found, named, words);
     }
-    Walk::Done { phase, line }
+    walk
 }
 
 // Zeros in every word.

@@ -123,3 +123,12 @@ firstLine at (l ∷ m ∷ ls) = Line (recordOf l) (at + length l + 1)
 -- the line that starts at `at`, and where the next one starts; beyond the end there is none
 abbrev pub recordAt : List ℕ → ℕ → RecordAt
 recordAt s at = firstLine at (split 10 (drop at s))
+
+-- where the line behind what was found at `at` starts: at itself where no line feed follows
+abbrev pub nextOf : ℕ → RecordAt → ℕ
+nextOf at (Line r next) = next
+nextOf at Unended = at
+
+-- where the line behind the one at `at` starts
+abbrev pub nextAt : List ℕ → ℕ → ℕ
+nextAt s at = nextOf at (recordAt s at)

@@ -5,11 +5,12 @@ ghost use mathlib.Core.Path.{_≡_};
 ghost use mathlib.Core.List.{[]};
 ghost use mathlib.Core.Bool.{true};
 ghost use Prim.Native.Nat.{_≤_};
+ghost use lib.Dec.{ltb};
 ghost use lib.ListN.{length, drop};
 ghost use Rattle.text.specs.Text.{before};
 ghost use Rattle.text.specs.Numbers.{allDigits, noLeadingZero, decimalAfter, wellFormed, numberOf};
 ghost use Rattle.text.specs.Words.{alike, keywordOf};
-ghost use Rattle.text.specs.Records.{is, firstField, split, sound, oneOf, twoOf, threeOf, loopOf, beginOf, startOf, accessOf, byWord, recordOf, recordAt};
+ghost use Rattle.text.specs.Records.{is, firstField, split, sound, oneOf, twoOf, threeOf, loopOf, beginOf, startOf, accessOf, byWord, recordOf, recordAt, nextOf, nextAt};
 
 // How many bytes stand before the first b, or all of them: the one search for a tab or a line feed.
 fn find(s: &[u8], b: u8) -> usize
@@ -410,43 +411,48 @@ fn line_at(s: &[u8], at: usize) -> RecordAt
     }
 }
 
+// Where the line behind what was found at `at` starts: `at` itself where no line feed follows.
+fn next_at(found: RecordAt, at: usize) -> usize
+    ensures { λ r. ⌜ r ≡ nextOf at found ⌝ }
+{
+    match found {
+        RecordAt::Line { record: _, next } => next,
+        RecordAt::Unended => at,
+    }
+}
+
 // The line reader: it keeps the lent text and the offset of the next line. Its methods put it
-// together and take it apart; `line_at` does the work.
-struct LineReader<'a> {
+// together and take it apart; `line_at` and `next_at` do the work.
+pub struct LineReader<'a> {
     text: &'a [u8],
     at: usize,
 }
 
 impl<'a> LineReader<'a> {
     // The reader of a text, at its first line.
-    fn new(text: &'a [u8]) -> LineReader<'a>
+    pub fn new(text: &'a [u8]) -> LineReader<'a>
         ensures { λ r. ⌜ (r .text ≡ text .entry) × (r .at ≡ 0) ⌝ }
     {
         LineReader { text, at: 0 }
     }
 
-    // The reader of the same text at another offset, as the one that a record comes with.
-    fn moved(self, at: usize) -> LineReader<'a>
-        ensures { λ r. ⌜ (r .text ≡ self .entry .text) × (r .at ≡ at) ⌝ }
+    // Whether bytes are left.
+    pub fn more(self) -> bool
+        ensures { λ r. ⌜ r ≡ ltb (self .entry .at) (length (now (self .entry .text))) ⌝ }
     {
-        LineReader {
-            text: self.text,
-            at,
-        }
+        self.at < self.text.len()
     }
 
-    // What the next line says, with the offset of the line after it.
-    fn next(self) -> RecordAt
-        ensures { λ r. ⌜ r ≡ recordAt (now (self .entry .text)) (self .entry .at) ⌝ }
+    // What the next line says. The reader goes on behind it, and stays where no line feed follows.
+    pub fn next(&mut self) -> RecordAt
+        ensures { λ r. ⌜
+            (r ≡ recordAt (now (now (self .entry) .text)) (now (self .entry) .at)) × (now (self .exit) .text ≡ now (self .entry) .text)
+            × (now (self .exit) .at ≡ nextAt (now (now (self .entry) .text)) (now (self .entry) .at))
+            ⌝ }
     {
-        line_at(self.text, self.at)
+        let at = self.at;
+        let found = line_at(self.text, at);
+        self.at = next_at(found, at);
+        found
     }
-}
-
-// What a reader of the text says at the line that starts at `at`: for callers that keep text and
-// offset themselves.
-pub fn record_at(s: &[u8], at: usize) -> RecordAt
-    ensures { λ r. ⌜ r ≡ recordAt (now (s .entry)) at ⌝ }
-{
-    LineReader::new(s).moved(at).next()
 }
