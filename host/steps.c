@@ -334,12 +334,36 @@ static void try_short_bare(struct trial *trial, struct lengths lengths) {
     free_slices(slices);
 }
 
+/* Slices that are NULL, each alone and all: 11. */
+static void try_null(struct trial *trial, struct slices all) {
+    struct slices some[] = {all, all, all, {NULL, NULL, NULL}};
+    some[0].plan = NULL;
+    some[1].counts = NULL;
+    some[2].values = NULL;
+    for (int k = 0; k < 4; k++) {
+        struct slices s = some[k];
+        struct lengths l = {s.plan == NULL ? 0 : PLAN_WORDS, s.counts == NULL ? 0 : COUNTS,
+                            s.values == NULL ? 0 : VALUES};
+        for (int call = 0; call < CALLS; call++)
+            compare_answer(trial, (enum call)call, 0, (struct answer){11, 0},
+                           runtime_call((enum call)call, s, l, 0));
+        if (taskiter_play(s.plan, l.plan, s.counts, l.counts, s.values, l.values, NULL, 0, NULL,
+                          0) != 11)
+            differ(trial, "a list of no calls is accepted with a slice that is NULL");
+    }
+    taskiter_number n = taskiter_items(all.plan, PLAN_WORDS, NULL, 0),
+                    m = taskiter_edges(all.plan, PLAN_WORDS, NULL, 0);
+    if (n.refusal != 11 || m.refusal != 11 || taskiter_read(NULL, 0, NULL, 0).refusal != 11)
+        differ(trial, "items, edges or reading is accepted with a slice that is NULL");
+}
+
 void bare_group(struct trial *trial, struct rng *rng) {
     put_drawn_plan(trial, rng);
     struct slices slices = bare_slices(least);
     read_bare(trial, rng, slices);
     graph_bare(trial, slices);
     play_bare(trial, rng, slices);
+    try_null(trial, slices);
     free_slices(slices);
     try_short_bare(trial, (struct lengths){PLAN_WORDS - 1, COUNTS, VALUES});
     try_short_bare(trial, (struct lengths){PLAN_WORDS, COUNTS - 1, VALUES});

@@ -18,9 +18,8 @@
    All memory is the host's. The runtime keeps nothing between calls and allocates nothing.
 
    Duties of the host, for every call:
-     - each slice is as long as the call says, in elements, and aligned for its type;
-     - a slice is not NULL, even where its length is 0: only the text of taskiter_read and the
-       slices calls and answers of taskiter_play may be (NULL, 0);
+     - each slice is as long as the call says, in elements, and aligned for its type; where its
+       length is 0 it may be NULL;
      - the slices of one call do not overlap;
      - calls come one after another (docs/HOST.md says more of threads).
    With these kept every call ends and does nothing undefined, whatever the slices hold. For the
@@ -101,8 +100,8 @@ typedef struct {
 
 /* Reads a text into the plan.
    Accepted: the first TASKITER_PLAN_WORDS words of the plan are written. Refused for 1 to 10: they
-   are zeros. Refused for 11, when the plan is too short: nothing is changed. (NULL, 0) is an empty
-   text. */
+   are zeros. Refused for 11, when the plan is too short: nothing is changed. An empty text may be
+   (NULL, 0). */
 taskiter_reading taskiter_read(const uint8_t *text, size_t text_length, uint64_t *plan,
                                size_t plan_length);
 
@@ -148,8 +147,9 @@ taskiter_answer taskiter_result(const uint64_t *plan, size_t plan_length,
                                 const TASKITER_COUNT_TYPE *counts, size_t counts_length,
                                 const uint64_t *values, size_t values_length, uint64_t region);
 
-/* A call of a list, in one word. Numbers from 6,148,914,691,236,517,205 on have no such word; no
-   plan has one that large. */
+/* A call of a list, in one word: 3 times its number, and which call it is. The number lies below
+   6,148,914,691,236,517,205, as those of all items and regions do; of a larger one the word may be
+   that of another call. */
 #define TASKITER_CALL_START(item) (3 * (uint64_t)(item))
 #define TASKITER_CALL_FINISH(item) (3 * (uint64_t)(item) + 1)
 #define TASKITER_CALL_RESULT(region) (3 * (uint64_t)(region) + 2)
@@ -166,30 +166,97 @@ uint64_t taskiter_play(const uint64_t *plan, size_t plan_length, TASKITER_COUNT_
                        const uint64_t *calls, size_t calls_length, uint64_t *answers,
                        size_t answers_length);
 
-/* The runtime is proved for slices that point somewhere, and (NULL, 0) does not. Where a slice may
-   be empty these two lend a word of their own instead; the macros below put them in place. A name
-   in parentheses, (taskiter_read)(...), calls the runtime itself. */
-static inline taskiter_reading taskiter_read_slice(const uint8_t *text, size_t text_length,
-                                                   uint64_t *plan, size_t plan_length) {
+/* In C (NULL, 0) is a slice of no elements. The runtime is proved for slices that point somewhere.
+   So each call goes through an inline function that lends an empty text, list or answers a byte of
+   its own, and refuses any other NULL with 11, as the runtime refuses a slice of length 0. The
+   runtime's functions themselves are reached by a name in parentheses, (taskiter_read)(...), by a
+   pointer to a function, and from other languages; there no slice may be NULL. */
+static inline taskiter_reading taskiter_read_lent(const uint8_t *text, size_t text_length,
+                                                  uint64_t *plan, size_t plan_length) {
     static const uint8_t none = 0;
-    return taskiter_read(text != NULL || text_length > 0 ? text : &none, text_length, plan,
-                         plan_length);
+    taskiter_reading refused = {11, 0};
+    return plan == NULL ? refused
+                        : taskiter_read(text == NULL && text_length == 0 ? &none : text,
+                                        text_length, plan, plan_length);
 }
 
-static inline uint64_t taskiter_play_slices(const uint64_t *plan, size_t plan_length,
-                                            TASKITER_COUNT_TYPE *counts, size_t counts_length,
-                                            uint64_t *values, size_t values_length,
-                                            const uint64_t *calls, size_t calls_length,
-                                            uint64_t *answers, size_t answers_length) {
+static inline taskiter_number taskiter_items_lent(const uint64_t *plan, size_t plan_length,
+                                                  uint16_t *items, size_t items_length) {
+    taskiter_number refused = {11, 0};
+    return plan == NULL || items == NULL ? refused
+                                         : taskiter_items(plan, plan_length, items, items_length);
+}
+
+static inline taskiter_number taskiter_edges_lent(const uint64_t *plan, size_t plan_length,
+                                                  uint32_t *edges, size_t edges_length) {
+    taskiter_number refused = {11, 0};
+    return plan == NULL || edges == NULL ? refused
+                                         : taskiter_edges(plan, plan_length, edges, edges_length);
+}
+
+static inline uint64_t taskiter_open_lent(const uint64_t *plan, size_t plan_length,
+                                          TASKITER_COUNT_TYPE *counts, size_t counts_length,
+                                          uint64_t *values, size_t values_length) {
+    return plan == NULL || counts == NULL || values == NULL
+               ? 11
+               : taskiter_open(plan, plan_length, counts, counts_length, values, values_length);
+}
+
+static inline taskiter_answer taskiter_start_lent(const uint64_t *plan, size_t plan_length,
+                                                  TASKITER_COUNT_TYPE *counts,
+                                                  size_t counts_length, uint64_t *values,
+                                                  size_t values_length, uint64_t item) {
+    taskiter_answer refused = {11, 0};
+    return plan == NULL || counts == NULL || values == NULL
+               ? refused
+               : taskiter_start(plan, plan_length, counts, counts_length, values, values_length,
+                                item);
+}
+
+static inline taskiter_answer taskiter_finish_lent(const uint64_t *plan, size_t plan_length,
+                                                   TASKITER_COUNT_TYPE *counts,
+                                                   size_t counts_length, uint64_t *values,
+                                                   size_t values_length, uint64_t item) {
+    taskiter_answer refused = {11, 0};
+    return plan == NULL || counts == NULL || values == NULL
+               ? refused
+               : taskiter_finish(plan, plan_length, counts, counts_length, values, values_length,
+                                 item);
+}
+
+static inline taskiter_answer taskiter_result_lent(const uint64_t *plan, size_t plan_length,
+                                                   const TASKITER_COUNT_TYPE *counts,
+                                                   size_t counts_length, const uint64_t *values,
+                                                   size_t values_length, uint64_t region) {
+    taskiter_answer refused = {11, 0};
+    return plan == NULL || counts == NULL || values == NULL
+               ? refused
+               : taskiter_result(plan, plan_length, counts, counts_length, values, values_length,
+                                 region);
+}
+
+static inline uint64_t taskiter_play_lent(const uint64_t *plan, size_t plan_length,
+                                          TASKITER_COUNT_TYPE *counts, size_t counts_length,
+                                          uint64_t *values, size_t values_length,
+                                          const uint64_t *calls, size_t calls_length,
+                                          uint64_t *answers, size_t answers_length) {
     uint64_t none[2] = {0, 0};
-    return taskiter_play(plan, plan_length, counts, counts_length, values, values_length,
-                         calls != NULL || calls_length > 0 ? calls : &none[0], calls_length,
-                         answers != NULL || answers_length > 0 ? answers : &none[1],
-                         answers_length);
+    return plan == NULL || counts == NULL || values == NULL
+               ? 11
+               : taskiter_play(plan, plan_length, counts, counts_length, values, values_length,
+                               calls == NULL && calls_length == 0 ? &none[0] : calls, calls_length,
+                               answers == NULL && answers_length == 0 ? &none[1] : answers,
+                               answers_length);
 }
 
-#define taskiter_read(...) taskiter_read_slice(__VA_ARGS__)
-#define taskiter_play(...) taskiter_play_slices(__VA_ARGS__)
+#define taskiter_read(...) taskiter_read_lent(__VA_ARGS__)
+#define taskiter_items(...) taskiter_items_lent(__VA_ARGS__)
+#define taskiter_edges(...) taskiter_edges_lent(__VA_ARGS__)
+#define taskiter_open(...) taskiter_open_lent(__VA_ARGS__)
+#define taskiter_start(...) taskiter_start_lent(__VA_ARGS__)
+#define taskiter_finish(...) taskiter_finish_lent(__VA_ARGS__)
+#define taskiter_result(...) taskiter_result_lent(__VA_ARGS__)
+#define taskiter_play(...) taskiter_play_lent(__VA_ARGS__)
 
 #ifdef __cplusplus
 }

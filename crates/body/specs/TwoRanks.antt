@@ -36,17 +36,8 @@ twoRanks =
 -- from, to, distance, as the paper prints them
 abbrev pub tenEdges : List (ℕ × ℕ × ℕ)
 tenEdges =
-    (0, 0, 1)
-    ∷ (0, 1, 0)
-    ∷ (1, 0, 1)
-    ∷ (1, 1, 1)
-    ∷ (1, 2, 0)
-    ∷ (2, 1, 1)
-    ∷ (2, 2, 1)
-    ∷ (2, 3, 0)
-    ∷ (3, 2, 1)
-    ∷ (3, 3, 1)
-    ∷ []
+    (0, 0, 1) ∷ (0, 1, 0) ∷ (1, 0, 1) ∷ (1, 1, 1) ∷ (1, 2, 0)
+    ∷ (2, 1, 1) ∷ (2, 2, 1) ∷ (2, 3, 0) ∷ (3, 2, 1) ∷ (3, 3, 1) ∷ []
 
 -- calls and what they are answered: both passes with rank 0 ahead, and refused calls among them
 abbrev pub trace : List (Call × Option ℕ)

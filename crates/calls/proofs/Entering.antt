@@ -12,13 +12,15 @@ use lib.Seq.{length-take-le}
 use Rattle.finite.specs.Below.{allBelow}
 use Rattle.finite.proofs.Below.{all-at}
 use Rattle.finite.proofs.Tests.{or-cases, or-parts, and-true}
+use Rattle.body.specs.Items.{itemCount}
 use Rattle.plan.specs.Sizes.{countWords}
 use Rattle.plan.specs.Layout.{planWords, passesOf}
-use Rattle.plan.specs.Form.{inForm}
 use Rattle.graph.specs.Table.{tableOf, Graph}
 use Rattle.graph.specs.Answers.{refusalOf, longPlan, formedPlan, planBody}
 use Rattle.steps.specs.State.{stateOf}
 use Rattle.steps.specs.Answers.{countOk, formedCounts}
+use Rattle.items.specs.declared.Made.{Made}
+use Rattle.items.proofs.Coding.{table-graph}
 use Rattle.calls.specs.declared.Entry.{Entry}
 use Rattle.calls.specs.Doors.{ByPlan, ByState}
 
@@ -27,6 +29,11 @@ same-refused : (l f g : Bool) → (refusalOf l f true ≡ 0 → ⊥) → refusal
 same-refused true true g n = absurd (n refl)
 same-refused true false g n = refl
 same-refused false f g n = refl
+
+some-refused : (l f : Bool) → (refusalOf l f true ≡ 0 → ⊥) → (l && f) ≡ false
+some-refused true true n = absurd (n refl)
+some-refused true false n = refl
+some-refused false f n = refl
 
 none-refused : (l f : Bool) → refusalOf l f true ≡ 0 → (l ≡ true) × (f ≡ true)
 none-refused true true e = (refl, refl)
@@ -64,17 +71,26 @@ module _ (P table : List ℕ) (long : Bool) where
     all-long : (longPlan P && long) ≡ true
     all-long = rw (le-leb planWords (length P) plan-room, not-false long (or-parts (ltb (length P) planWords) (not long) h .1))
 
-    module _ (f : Bool) (tested : f ≡ inForm (take planWords P)) (n : ℕ) (table′ : List ℕ)
-        (made : table′ ≡ cond f (tableOf (planBody P) ++ drop n table) table) where
-      pub plan-unformed : (r : Entry) → not f ≡ true → r ≡ record { refusal = 12; items = 0 } → ByPlan P long table r table′
-      plan-unformed r u e = refused-by 12 r table′ (λ z. omega arith) e (rw (all-long, ← tested, not-true f u)) (made ∙ rw (not-true f u))
+    -- m tells of the table that was made
+    module _ (m : Made) (table′ : List ℕ) (made : (m ≡ record { formed = formedPlan P; count = cond (formedPlan P) (itemCount (planBody P)) 0 })
+        × (table′ ≡ cond (formedPlan P) (tableOf (planBody P) ++ drop (itemCount (planBody P)) table) table)) where
+      tested : m .formed ≡ formedPlan P
+      tested = ap (λ (x : Made). x .formed) (made .0)
 
-      pub plan-clear : not f ≡ false → (f ≡ true → Graph (take planWords P) table′ n) → ByPlan P long table (record { refusal = 0; items = n }) table′
-      plan-clear u g =
+      pub plan-unformed : (r : Entry) → not (m .formed) ≡ true → r ≡ record { refusal = 12; items = 0 } → ByPlan P long table r table′
+      plan-unformed r u e =
+          let f : formedPlan P ≡ false = sym tested ∙ not-true (m .formed) u in
+          refused-by 12 r table′ (λ z. omega arith) e (rw (all-long, f)) (made .1 ∙ rw f)
+
+      pub plan-clear : not (m .formed) ≡ false → ByPlan P long table (record { refusal = 0; items = m .count }) table′
+      plan-clear u =
+          let f : formedPlan P ≡ true = sym tested ∙ not-false (m .formed) u in
+          let n : m .count ≡ itemCount (planBody P) = ap (λ (x : Made). x .count) (made .0) ∙ rw f in
+          let t : table′ ≡ tableOf (planBody P) ++ drop (m .count) table = made .1 ∙ rw (f, n) in
           record {
-            refusal = rw (all-long, ← tested, not-false f u);
-            clear = λ k. g (not-false f u);
-            listed = λ k. made ∙ rw (not-false f u);
+            refusal = rw (all-long, f);
+            clear = λ k. rw (t, n) (table-graph (take planWords P) (drop (itemCount (planBody P)) table) cut-long f);
+            listed = λ k. t;
             refused = λ k. absurd (k refl);
           }
 
@@ -83,11 +99,14 @@ module _ (P C table : List ℕ) (long : Bool) (r : Entry) (table′ : List ℕ) 
   abbrev all-slices : Bool
   all-slices = longPlan P && (leb countWords (length C) && long)
 
-  pub state-refused : (r .refusal ≡ 0 → ⊥) → ByState P C long r table′
+  pub state-refused : (r .refusal ≡ 0 → ⊥) → ByState P C long table r table′
   state-refused n =
+      let k : refusalOf all-slices (formedPlan P) true ≡ 0 → ⊥ = λ z. n (B .refusal ∙ z) in
       record {
-        refusal = B .refusal ∙ same-refused all-slices (formedPlan P) (formedCounts P C []) (λ z. n (B .refusal ∙ z));
+        refusal = B .refusal ∙ same-refused all-slices (formedPlan P) (formedCounts P C []) k;
         clear = λ z. absurd (n z);
+        listed = B .refused n .1 ∙ rw (some-refused all-slices (formedPlan P) k);
+        refused = λ z. B .refused n .0;
       }
 
   module _ (z : r .refusal ≡ 0) where
@@ -106,26 +125,33 @@ module _ (P C table : List ℕ) (long : Bool) (r : Entry) (table′ : List ℕ) 
     pub lent-graph : Graph (take planWords P) table′ (r .items)
     lent-graph = B .clear z
 
+    filled : table′ ≡ cond (all-slices && formedPlan P) (tableOf (planBody P) ++ drop (itemCount (planBody P)) table) table
+    filled = B .listed z ∙ rw (passed .0, passed .1, lent-graph .count)
+
     module _ (passes : ℕ) (p : passes ≡ passesOf (take planWords P)) (ok : Bool) (o : ok ≡ allBelow (r .items) (countOk passes (stateOf C []))) where
       counted : ok ≡ formedCounts P C []
       counted = o ∙ rw (lent-graph .count, p)
 
-      pub state-unformed : (s : Entry) → not ok ≡ true → s ≡ record { refusal = 12; items = 0 } → ByState P C long s table′
+      pub state-unformed : (s : Entry) → ok ≡ false → s ≡ record { refusal = 12; items = 0 } → ByState P C long table s table′
       state-unformed s u e =
           record {
-            refusal = ap (λ (x : Entry). x .refusal) e ∙ rw (passed .0, passed .1, ← counted, not-true ok u);
+            refusal = ap (λ (x : Entry). x .refusal) e ∙ rw (passed .0, passed .1, ← counted, u);
             clear = λ k. absurd (let y : _≡_ {A = ℕ} 12 0 = sym (ap (λ (x : Entry). x .refusal) e) ∙ k in omega arith);
+            listed = filled;
+            refused = λ k. ap (λ (x : Entry). x .items) e;
           }
 
-      pub state-clear : not ok ≡ false → ByState P C long r table′
+      pub state-clear : ok ≡ true → ByState P C long table r table′
       state-clear u =
           record {
-            refusal = z ∙ rw (passed .0, passed .1, ← counted, not-false ok u);
+            refusal = z ∙ rw (passed .0, passed .1, ← counted, u);
             clear = λ k.
                 record {
                   graph = lent-graph;
                   room = lent-counts;
                   counts-ok = λ a l. all-at (countOk (passesOf (take planWords P)) (stateOf C [])) (r .items) a
-                      (subst (λ (x : ℕ). allBelow (r .items) (countOk x (stateOf C [])) ≡ true) p (sym o ∙ not-false ok u)) l;
+                      (subst (λ (x : ℕ). allBelow (r .items) (countOk x (stateOf C [])) ≡ true) p (sym o ∙ u)) l;
                 };
+            listed = filled;
+            refused = λ k. absurd (k z);
           }

@@ -2,10 +2,11 @@
 -- may rest on. It serves the contracts of inner functions: nothing here need be believed.
 use Prim.Native.Nat.{ℕ, _≤_, _<_}
 use mathlib.Core.Path.{_≡_}
-use mathlib.Core.Bool.{Bool, true, _&&_}
+use mathlib.Core.Bool.{Bool, true, cond, _&&_}
 use mathlib.Core.List.{List, [], _++_}
 use lib.Dec.{leb}
 use lib.ListN.{length, take, drop}
+use Rattle.body.specs.Items.{itemCount}
 use Rattle.plan.specs.Layout.{planWords, passesOf}
 use Rattle.plan.specs.Sizes.{countWords}
 use Rattle.graph.specs.Table.{tableOf, Graph}
@@ -28,6 +29,9 @@ pub record Clear (w counts table : List ℕ) (n : ℕ) : Type 0 where
   pub counts-ok : (a : ℕ) → a < n → countOk (passesOf w) (stateOf counts []) a ≡ true
 
 -- by the plan P and the counts
-pub record ByState (P counts : List ℕ) (long : Bool) (r : Entry) (table′ : List ℕ) : Type 0 where
+pub record ByState (P counts : List ℕ) (long : Bool) (table : List ℕ) (r : Entry) (table′ : List ℕ) : Type 0 where
   pub refusal : r .refusal ≡ refusalOf (longPlan P && (leb countWords (length counts) && long)) (formedPlan P && formedCounts P counts []) true
   pub clear : r .refusal ≡ 0 → Clear (take planWords P) counts table′ (r .items)
+  pub listed : table′ ≡ cond ((longPlan P && (leb countWords (length counts) && long)) && formedPlan P)
+      (tableOf (planBody P) ++ drop (itemCount (planBody P)) table) table
+  pub refused : (r .refusal ≡ 0 → ⊥) → r .items ≡ 0

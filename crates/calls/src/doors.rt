@@ -53,17 +53,17 @@ pub fn enter_plan(plan: &[u64], long: bool, table: &mut [u16]) -> Entry
 }
 
 // By the plan and the counts: 11 and 12 as before, and 12 where the counts of an item are not in
-// form.
+// form; the table then has the items.
 pub fn enter_state(plan: &[u64], counts: &[Count], long: bool, table: &mut [u16]) -> Entry
     requires { ⌜ length (now table) ≡ maxItems ⌝ }
-    ensures { λ r. ⌜ ByState (now (plan .entry)) (now (counts .entry)) long r (now (table .exit)) ⌝ }
+    ensures { λ r. ⌜ ByState (now (plan .entry)) (now (counts .entry)) long (now (table .entry)) r (now (table .exit)) ⌝ }
 {
     let entry = enter_plan(plan, (COUNTS <= counts.len()) & long, table);
     if entry.refusal != 0 {
         return entry;
     }
-    if !are_formed(counts, pass_count(&plan[..PLAN_WORDS]), entry.items) {
-        return no_entry(12);
+    if are_formed(counts, pass_count(&plan[..PLAN_WORDS]), entry.items) {
+        return entry;
     }
-    entry
+    no_entry(12)
 }

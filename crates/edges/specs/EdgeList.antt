@@ -25,6 +25,7 @@ pub record Small (B : Body) : Type 0 where
   pub accesses : (i : ℕ) → i < B .tasks → countBelow 128 (λ g. mem g (B .writes i) || mem g (B .reads i)) ≤ 8
   pub transfers : transferCount B ≤ 256
 
--- such a body has no more edges: each item's own, 2 for each transfer's slot, 2 for each access of a copy
+-- a `Small` body has no more edges: each item's own, 2 for each transfer's slot, 2 for each access
+-- of a copy
 abbrev pub maxEdges : ℕ
 maxEdges = 4224

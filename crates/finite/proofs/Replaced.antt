@@ -2,13 +2,13 @@
 use Prim.Native.Nat.{ℕ, _+_, _-_, _≤_, _<_}
 use mathlib.Core.Path.{_≡_, refl, sym, _∙_, ap}
 use mathlib.Core.Bool.{Bool, true, false, cond, _&&_, _||_, or-false}
-use mathlib.Core.List.{List, [], _∷_, _++_, append-nil}
+use mathlib.Core.List.{List, [], _∷_, _++_}
 use native.Mathlib.Decide.{decLt}
 use native.Mathlib.Omega.{arith}
 use borrow.Author.Tests.{eqb-true, le-leb, lt-leb}
 use lib.Dec.{eqb, leb}
-use lib.ListN.{length, getD, take, drop, set, length-append, length-set, length-drop, drop-of-length-le, List·getD-append, List·getD-eq-default}
-use lib.Seq.{length-take-le, take-all, getD-take, getD-drop, getD-append-add}
+use lib.ListN.{length, getD, take, drop, set, length-append, length-set, length-drop, List·getD-append, List·getD-eq-default}
+use lib.Seq.{length-take-le, getD-take, getD-drop, getD-append-add}
 use Rattle.finite.specs.Lists.{mem, tabulate}
 use Rattle.finite.specs.Update.{replaced}
 use Rattle.finite.proofs.Lists.{length-tabulate, getD-tabulate}
@@ -91,38 +91,67 @@ replaced-twice p q f g xs =
     one i l true = refl
     one i l false = replaced-at p f xs i l
 
--- the part of xs from a on is lent and comes back as ys: what is replaced in the part is replaced in the whole
-pub replaced-lent : (p : ℕ → Bool) (f : ℕ → ℕ) (a : ℕ) (xs ys : List ℕ) → a ≤ length xs →
-    ys ≡ replaced p f (take (length xs - a) (drop a xs)) →
-    take a xs ++ (ys ++ drop (length xs - a) (drop a xs)) ≡ replaced (λ i. leb a i && p (i - a)) (λ i. f (i - a)) xs
-replaced-lent p f a xs ys h e =
-    ap (λ (l : List ℕ). take a xs ++ l) (simplify) ∙
-    replaced-is (λ i. leb a i && p (i - a)) (λ i. f (i - a)) xs (take a xs ++ replaced p f (drop a xs)) sizes each
+-- the part of xs from a to e is lent and comes back as ys: what is replaced in the part is replaced
+-- in the whole
+pub replaced-lent : (p : ℕ → Bool) (f : ℕ → ℕ) (a e : ℕ) (xs ys : List ℕ) → a ≤ e → e ≤ length xs → ((i : ℕ) → p i ≡ true → i < e - a) →
+    ys ≡ replaced p f (take (e - a) (drop a xs)) →
+    take a xs ++ (ys ++ drop (e - a) (drop a xs)) ≡ replaced (λ i. leb a i && p (i - a)) (λ i. f (i - a)) xs
+replaced-lent p f a e xs ys h k only b = replaced-is (λ i. leb a i && p (i - a)) (λ i. f (i - a)) xs (take a xs ++ (ys ++ rest)) sizes each
   where
-    whole : length (drop a xs) ≤ length xs - a
-    whole = omega (arith, length-drop a xs)
+    part : List ℕ
+    part = take (e - a) (drop a xs)
 
-    simplify : ys ++ drop (length xs - a) (drop a xs) ≡ replaced p f (drop a xs)
-    simplify = rw (e, take-all _ _ whole, drop-of-length-le _ whole, append-nil)
+    rest : List ℕ
+    rest = drop (e - a) (drop a xs)
 
     front : length (take a xs) ≡ a
-    front = length-take-le a xs h
+    front = length-take-le a xs (omega arith)
 
-    sizes : length (take a xs ++ replaced p f (drop a xs)) ≡ length xs
-    sizes = length-append (take a xs) (replaced p f (drop a xs)) ∙ omega (arith, front, length-replaced p f (drop a xs), length-drop a xs)
+    middle : length ys ≡ e - a
+    middle = ap length b ∙ (length-replaced p f part ∙ length-take-le (e - a) (drop a xs) (omega (arith, length-drop a xs)))
 
-    later : (i : ℕ) → i < length xs → a ≤ i → getD (take a xs ++ replaced p f (drop a xs)) i 0 ≡ cond (p (i - a)) (f (i - a)) (getD xs i 0)
-    later i l k =
+    sizes : length (take a xs ++ (ys ++ rest)) ≡ length xs
+    sizes =
+        length-append (take a xs) (ys ++ rest)
+        ∙ omega (arith, front, middle, length-append ys rest, length-drop (e - a) (drop a xs), length-drop a xs)
+
+    -- behind the front
+    later : (i : ℕ) → a ≤ i → getD (take a xs ++ (ys ++ rest)) i 0 ≡ getD (ys ++ rest) (i - a) 0
+    later i l =
         let s : length (take a xs) + (i - a) ≡ i = omega (arith, front) in
-        let t : a + (i - a) ≡ i = omega arith in
-        ap (λ (j : ℕ). getD (take a xs ++ replaced p f (drop a xs)) j 0) (sym s)
-        ∙ (getD-append-add (take a xs) (replaced p f (drop a xs)) (i - a) 0
-        ∙ (replaced-at p f (drop a xs) (i - a) (omega (arith, length-drop a xs))
-        ∙ ap (λ (z : ℕ). cond (p (i - a)) (f (i - a)) z) (getD-drop a xs (i - a) 0 ∙ ap (λ (j : ℕ). getD xs j 0) t)))
+        ap (λ (j : ℕ). getD (take a xs ++ (ys ++ rest)) j 0) (sym s) ∙ getD-append-add (take a xs) (ys ++ rest) (i - a) 0
 
-    each : (i : ℕ) → i < length xs → getD (take a xs ++ replaced p f (drop a xs)) i 0 ≡ cond (leb a i && p (i - a)) (f (i - a)) (getD xs i 0)
+    within : (i : ℕ) → a ≤ i → i < e → getD (ys ++ rest) (i - a) 0 ≡ cond (p (i - a)) (f (i - a)) (getD xs i 0)
+    within i l m =
+        let t : a + (i - a) ≡ i = omega arith in
+        List·getD-append ys rest 0 (i - a) (omega (arith, middle))
+        ∙ (ap (λ (zs : List ℕ). getD zs (i - a) 0) b
+        ∙ (replaced-at p f part (i - a) (omega (arith, length-take-le (e - a) (drop a xs) (omega (arith, length-drop a xs))))
+        ∙ ap (λ (z : ℕ). cond (p (i - a)) (f (i - a)) z)
+        (getD-take (e - a) (drop a xs) (i - a) 0 (omega arith) ∙ (getD-drop a xs (i - a) 0 ∙ ap (λ (j : ℕ). getD xs j 0) t))))
+
+    behind : (i : ℕ) → e ≤ i → getD (ys ++ rest) (i - a) 0 ≡ getD xs i 0
+    behind i l =
+        let s : length ys + (i - e) ≡ i - a = omega (arith, middle) in
+        let t : a + ((e - a) + (i - e)) ≡ i = omega arith in
+        ap (λ (j : ℕ). getD (ys ++ rest) j 0) (sym s)
+        ∙ (getD-append-add ys rest (i - e) 0
+        ∙ (getD-drop (e - a) (drop a xs) (i - e) 0 ∙ (getD-drop a xs ((e - a) + (i - e)) 0 ∙ ap (λ (j : ℕ). getD xs j 0) t)))
+
+    out : (i : ℕ) → e ≤ i → (t : Bool) → p (i - a) ≡ t → getD xs i 0 ≡ cond t (f (i - a)) (getD xs i 0)
+    out i l true q = absurd (omega (arith, only (i - a) q))
+    out i l false q = refl
+
+    each : (i : ℕ) → i < length xs → getD (take a xs ++ (ys ++ rest)) i 0 ≡ cond (leb a i && p (i - a)) (f (i - a)) (getD xs i 0)
     each i l =
         elim (decLt i a) [
-          | yes k ↦ List·getD-append (take a xs) (replaced p f (drop a xs)) 0 i (omega (arith, front)) ∙ (getD-take a xs i 0 k ∙ rw (lt-leb a i k))
-          | no k ↦ let m : a ≤ i = omega arith in later i l m ∙ rw (le-leb a i m)
+          | yes m ↦ List·getD-append (take a xs) (ys ++ rest) 0 i (omega (arith, front)) ∙ (getD-take a xs i 0 m ∙ rw (lt-leb a i m))
+          | no m ↦
+              let n : a ≤ i = omega arith in
+              rw (le-leb a i n)
+              (later i n
+              ∙ elim (decLt i e) [
+                | yes o ↦ within i n o
+                | no o ↦ let u : e ≤ i = omega arith in behind i u ∙ out i u (p (i - a)) refl
+              ])
         ]

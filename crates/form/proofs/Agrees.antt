@@ -18,6 +18,7 @@ use Rattle.plan.specs.Layout.{at, passesOf, ranksOf, regionsOf, tasksOf, starti
 use Rattle.plan.specs.Form.{countsOk, valueOk, accessOk, restOk, usedOk, unusedOk, taskOk, wordsOk}
 use Rattle.plan.proofs.Facts.{Formed, formed}
 use Rattle.form.specs.Changes.{names, changeCount}
+use Rattle.form.specs.declared.words.Checked.{Checked}
 use Rattle.form.specs.Scan.{Keeps, mark, kept, freshOk, freshAllOk, headOk, readsOk, scanOk, absentOk, behindOk, tasksScanOk, behindRegionsOk, half, pairOk, behindTasksOk, Open, Scanned, Answer}
 use Rattle.form.proofs.Rest.{restAt}
 
@@ -206,24 +207,27 @@ module _ (w : List ℕ) where
   pub tasks-most : (t : Bool) → t ≡ countsOk w → not t ≡ false → tasksOf w ≤ maxTasks
   tasks-most t e z = counted (sym e ∙ not-false t z) .tasks
 
-  answer-not : (ok : Bool) (n : ℕ) → ok ≡ false → wordsOk w ≡ false → Answer w ok n
-  answer-not ok n f e = record { formed = f ∙ sym e; counts = λ t. absurd (not-both t f) }
+  answer-not : (r : Checked) → r ≡ record { ok = false; changes = 0 } → wordsOk w ≡ false → Answer w (r .ok) (r .changes)
+  answer-not r f e = rw f (record { formed = sym e; counts = refl })
 
-  pub answer-counts : (t ok : Bool) (n : ℕ) → t ≡ countsOk w → not t ≡ true → ok ≡ false → Answer w ok n
+  pub answer-counts : (t : Bool) (r : Checked) → t ≡ countsOk w → not t ≡ true → r ≡ record { ok = false; changes = 0 } → Answer w (r .ok) (r .changes)
   unfolding wordsOk
-  answer-counts t ok n e z f = answer-not ok n f (rw (sym e ∙ not-true t z))
+  answer-counts t r e z f = answer-not r f (rw (sym e ∙ not-true t z))
 
   module _ (t : Bool) (e : t ≡ countsOk w) (z : not t ≡ false) (s : Bool) (n : ℕ) (l : List ℕ) (k : Scanned (tasksScanOk w) (changeCount w) (kept w (tasksOf w)) s n l) where
     pub tasks-keep : not s ≡ false → Keeps (kept w (tasksOf w)) l
     tasks-keep y = k .keeps (not-false s y)
 
-    pub answer-tasks : (ok : Bool) (c : ℕ) → not s ≡ true → ok ≡ false → Answer w ok c
-    answer-tasks ok c y f = answer-not ok c f (sym (agrees (sym e ∙ not-false t z)) ∙ rw (sym (k .tested) ∙ not-true s y))
+    pub answer-tasks : (r : Checked) → not s ≡ true → r ≡ record { ok = false; changes = 0 } → Answer w (r .ok) (r .changes)
+    answer-tasks r y f = answer-not r f (sym (agrees (sym e ∙ not-false t z)) ∙ rw (sym (k .tested) ∙ not-true s y))
 
-    pub answer-behind : (r b : Bool) → not s ≡ false → r ≡ behindRegionsOk w → b ≡ behindTasksOk w → Answer w (r && b) n
-    answer-behind r b y p q =
-        let x = not-false s y in
-        record {
-          formed = rw (p, q) (sym (ap (λ (u : Bool). u && (behindRegionsOk w && behindTasksOk w)) (sym (k .tested) ∙ x)) ∙ agrees (sym e ∙ not-false t z));
-          counts = λ _. k .counts x;
-        }
+    -- b and c answer the tests of what lies behind the regions and behind the tasks
+    module _ (b c : Bool) (p : b ≡ behindRegionsOk w) (q : c ≡ behindTasksOk w) (y : not s ≡ false) where
+      found : (b && c) ≡ wordsOk w
+      found = rw (p, q) (sym (ap (λ (u : Bool). u && (behindRegionsOk w && behindTasksOk w)) (sym (k .tested) ∙ not-false s y)) ∙ agrees (sym e ∙ not-false t z))
+
+      pub answer-behind : (r : Checked) → not (b && c) ≡ true → r ≡ record { ok = false; changes = 0 } → Answer w (r .ok) (r .changes)
+      answer-behind r h f = answer-not r f (sym found ∙ not-true (b && c) h)
+
+      pub answer-fine : not (b && c) ≡ false → Answer w s n
+      answer-fine h = record { formed = not-false s y ∙ (sym (not-false (b && c) h) ∙ found); counts = k .counts }

@@ -1,12 +1,11 @@
 -- The answers of the in-form test, by what is found on the way.
-use mathlib.Core.Path.{refl, sym, _≡_, _∙_}
+use mathlib.Core.Path.{sym, _≡_, _∙_}
 use borrow.Author.Tests.{le-leb, not-true, not-false}
 use lib.Dec.{leb}
-use mathlib.Core.Bool.{Bool, true, false, not}
+use mathlib.Core.Bool.{Bool, true, false, cond, not}
 use mathlib.Core.List.{List}
 use native.Mathlib.Omega.{arith}
 use Prim.Native.Nat.{ℕ, _≤_}
-use Rattle.finite.proofs.Tests.{not-both}
 use Rattle.body.specs.Transfers.{transferCount}
 use Rattle.plan.specs.Limits.{maxTransfers}
 use Rattle.form.specs.Changes.{changeCount}
@@ -24,16 +23,20 @@ module _ (w : List ℕ) (ok : Bool) (e : ok ≡ wordsOk w) where
   unfolding inForm
   form-not h = rw (sym e ∙ not-true ok h)
 
-  pub form-few : (changes : ℕ) → not ok ≡ false → (ok ≡ true → changes ≡ changeCount w) → changes ≤ maxTransfers → true ≡ inForm w
+  pub form-few : (changes : ℕ) → not ok ≡ false → changes ≡ cond ok (changeCount w) 0 → changes ≤ maxTransfers → true ≡ inForm w
   unfolding inForm
   form-few changes h c l =
       let f = formed w (fine h) in
-      rw (fine h, le-leb (transferCount (bodyOf w)) maxTransfers (omega (arith, c (not-false ok h), transfers-bounded w f, ones-flags w f, count-found w f)))
+      let n : changes ≡ changeCount w = c ∙ rw (not-false ok h) in
+      rw (fine h, le-leb (transferCount (bodyOf w)) maxTransfers (omega (arith, n, transfers-bounded w f, ones-flags w f, count-found w f)))
+
+  -- the masks where the words fail, and where they do not
+  pub masks-not : (xs ys : List ℕ) → not ok ≡ true → xs ≡ cond (wordsOk w) ys xs
+  masks-not xs ys h = rw (sym e ∙ not-true ok h)
+
+  pub masks-found : (xs ys zs : List ℕ) → not ok ≡ false → zs ≡ ys → zs ≡ cond (wordsOk w) ys xs
+  masks-found xs ys zs h k = rw (fine h) k
 
   pub form-counted : (n : ℕ) → not ok ≡ false → n ≡ transferCount (bodyOf w) → leb n maxTransfers ≡ inForm w
   unfolding inForm
   form-counted n h k = rw (fine h, k)
-
--- no masks are asked for
-pub masks-not : (m l : List ℕ) → false ≡ true → m ≡ l
-masks-not m l e = absurd (not-both e refl)

@@ -19,7 +19,13 @@ use Rattle.finite.proofs.Below.{all-none, all-next, all-fails, all-not, any-nex
 use Rattle.plan.specs.Limits.{maxRanks, maxRegions, maxTasks}
 use Rattle.plan.specs.Layout.{rankOf, accessesOf, accessAt, regionAt, accessRegion, accessEnd}
 use Rattle.form.specs.Changes.{names, lastRank, changed}
+use Rattle.form.specs.declared.words.Checked.{Checked}
 use Rattle.form.specs.Scan.{Keeps, mark, kept, keptIn, freshOk, freshAllOk, changesOf, Ready, Scanned}
+
+-- what is refused
+pub scanned-not : (test : Bool) (count : ℕ) (f : ℕ → ℕ) (r : Checked) (l : List ℕ) → r ≡ record { ok = false; changes = 0 } → test ≡ false
+    → Scanned test count f (r .ok) (r .changes) l
+scanned-not test count f r l e q = rw e (record { tested = sym q; counts = refl; keeps = λ t. absurd (not-both t refl) })
 
 -- a word stored at g
 pub keeps-set : (f h : ℕ → ℕ) (l : List ℕ) (g v : ℕ) → Keeps f l → g < maxRegions → h g ≡ v → ((k : ℕ) → (k ≡ g → ⊥) → h k ≡ f k) → Keeps h (set l g v)
@@ -103,21 +109,16 @@ module _ (w : List ℕ) where
       let e : a ≡ accessesOf w i = omega arith in
       record {
         tested = k .fresh ∙ ap (λ (m : ℕ). allBelow m (freshOk w i)) e;
-        counts = λ _. k .counts ∙ ap (λ (m : ℕ). countBelow m (changed w i)) e;
+        counts = k .counts ∙ ap (λ (m : ℕ). countBelow m (changed w i)) e;
         keeps = λ _. record { size = k .keeps .size; word = λ g m. k .keeps .word g m ∙ ap (λ (b : ℕ). keptIn w i b g) e };
       }
 
   -- access a is bad
-  named-not : (i a n : ℕ) (ok : Bool) (l : List ℕ) → ok ≡ false → a < accessesOf w i → freshOk w i a ≡ false → Passed i ok n l
-  named-not i a n ok l f b e =
-      record {
-        tested = f ∙ sym (all-fails (freshOk w i) (accessesOf w i) a b e);
-        counts = λ t. absurd (not-both t f);
-        keeps = λ t. absurd (not-both t f);
-      }
+  named-not : (i a : ℕ) (r : Checked) (l : List ℕ) → r ≡ record { ok = false; changes = 0 } → a < accessesOf w i → freshOk w i a ≡ false → Passed i (r .ok) (r .changes) l
+  named-not i a r l f b e = scanned-not _ _ _ r l f (all-fails (freshOk w i) (accessesOf w i) a b e)
 
-  pub naming-wide : (i a n : ℕ) (ok : Bool) (l : List ℕ) → ok ≡ false → a < accessesOf w i → accessEnd ≤ accessAt w i a → Passed i ok n l
-  naming-wide i a n ok l f b h = named-not i a n ok l f b (rw (le-ltb (accessAt w i a) accessEnd h))
+  pub naming-wide : (i a : ℕ) (r : Checked) (l : List ℕ) → r ≡ record { ok = false; changes = 0 } → a < accessesOf w i → accessEnd ≤ accessAt w i a → Passed i (r .ok) (r .changes) l
+  naming-wide i a r l f b h = named-not i a r l f b (rw (le-ltb (accessAt w i a) accessEnd h))
 
   naming-more : (i a n m : ℕ) (l : List ℕ) → Naming i a n l → accessAt w i a < accessEnd → namedIn i a (regionAt w i a) ≡ false
       → m ≡ n + cond (changed w i a) 1 0 → Naming i (a + 1) m (set l (regionAt w i a) (mark w i))
@@ -148,10 +149,10 @@ module _ (w : List ℕ) where
         look i a since (ready .task) (ready .rank) (ready .ranks) fits
         (ap (λ (b : ℕ). (since + b) % 2 ^ 64) (sym x) ∙ (e ∙ (k .keeps .word g (omega arith) ∙ ap (keptIn w i a) at-region)))
 
-    pub naming-twice : (ok : Bool) (c : ℕ) → ok ≡ false → a < accessesOf w i → since ≡ i → Passed i ok c l
-    naming-twice ok c f b z =
+    pub naming-twice : (r : Checked) → r ≡ record { ok = false; changes = 0 } → a < accessesOf w i → since ≡ i → Passed i (r .ok) (r .changes) l
+    naming-twice r f b z =
         elim looked [
-          | twice p q ↦ (named-not i a c ok l f b (fresh-named i a ∙ rw q (and-false (ltb (accessAt w i a) accessEnd))))
+          | twice p q ↦ (named-not i a r l f b (fresh-named i a ∙ rw q (and-false (ltb (accessAt w i a) accessEnd))))
           | same p q r ↦ absurd (omega arith)
           | other p q r ↦ absurd (omega arith)
         ]

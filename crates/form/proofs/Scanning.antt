@@ -9,7 +9,7 @@ use native.Mathlib.Omega.{arith}
 use borrow.Author.Tests.{ltb-true, leb-true, not-true, not-false}
 use lib.Dec.{ltb, leb}
 use Rattle.finite.specs.Below.{allBelow, sumBelow}
-use Rattle.finite.proofs.Tests.{not-both, and-true}
+use Rattle.finite.proofs.Tests.{and-true, not-both}
 use Rattle.finite.proofs.Below.{below-suc, all-none, all-more, all-done, all-fails, count-le, sum-none, sum-more, sum-done}
 use Rattle.kernels.specs.declared.Permitted.the-variants.{Any, Exactly, AtLeast}
 use Rattle.kernels.specs.declared.Kernel.{Kernel}
@@ -20,10 +20,9 @@ use Rattle.plan.specs.Limits.{maxRanks, maxAccesses}
 use Rattle.plan.specs.Layout.{ranksOf, tasksOf, rankOf, accessesOf}
 use Rattle.plan.specs.Form.{restOk}
 use Rattle.form.specs.Changes.{changed, changeCount}
+use Rattle.form.specs.declared.words.Checked.{Checked}
 use Rattle.form.specs.Scan.{kept, freshAllOk, changesOf, headOk, takesAny, readsOk, scanOk, tasksScanOk, Open, Ready, Scanned}
-
-scanned-not : (test : Bool) (count : ℕ) (f : ℕ → ℕ) (ok : Bool) (n : ℕ) (l : List ℕ) → ok ≡ false → test ≡ false → Scanned test count f ok n l
-scanned-not test count f ok n l p q = record { tested = p ∙ sym q; counts = λ t. absurd (not-both t p); keeps = λ t. absurd (not-both t p) }
+use Rattle.form.proofs.Naming.{scanned-not}
 
 -- the reads of a kernel that takes any need not be counted
 pub suits-any : (k n : ℕ) → takesAny (kernelBy k) ≡ true → true ≡ suits k n
@@ -59,29 +58,37 @@ module _ (w : List ℕ) where
   abbrev pub Task : ℕ → Bool → ℕ → List ℕ → Type 0
   Task i ok n l = Scanned (scanOk w i) (changesOf w i) (kept w (suc i)) ok n l
 
-  module _ (i : ℕ) (ok : Bool) (n : ℕ) (l : List ℕ) (f : ok ≡ false) (t : Bool) (z : not t ≡ true) where
-    pub task-head : t ≡ headOk w i → Task i ok n l
+  module _ (i : ℕ) (r : Checked) (l : List ℕ) (f : r ≡ record { ok = false; changes = 0 }) (t : Bool) (z : not t ≡ true) where
+    pub task-head : t ≡ headOk w i → Task i (r .ok) (r .changes) l
     unfolding scanOk
-    task-head e = scanned-not _ _ _ ok n l f (rw (← e, not-true t z))
+    task-head e = scanned-not _ _ _ r l f (rw (← e, not-true t z))
 
-    pub task-fresh : t ≡ freshAllOk w i → Task i ok n l
+    pub task-fresh : t ≡ freshAllOk w i → Task i (r .ok) (r .changes) l
     unfolding scanOk
-    task-fresh e = scanned-not _ _ _ ok n l f (rw (← e, not-true t z) (and-false (headOk w i)))
+    task-fresh e = scanned-not _ _ _ r l f (rw (← e, not-true t z) (and-false (headOk w i)))
 
-    pub task-rest : t ≡ restOk w i → Task i ok n l
+    pub task-rest : t ≡ restOk w i → Task i (r .ok) (r .changes) l
     unfolding scanOk
-    task-rest e = scanned-not _ _ _ ok n l f (rw (← e, not-true t z, and-false (freshAllOk w i)) (and-false (headOk w i)))
+    task-rest e = scanned-not _ _ _ r l f (rw (← e, not-true t z, and-false (freshAllOk w i)) (and-false (headOk w i)))
 
-  -- the last test decides
-  pub task-reads : (i : ℕ) (h f r ok : Bool) (n : ℕ) (l : List ℕ) → h ≡ headOk w i → not h ≡ false → Scanned (freshAllOk w i) (changesOf w i) (kept w (suc i)) f n l → not f ≡ false
-      → r ≡ restOk w i → not r ≡ false → ok ≡ readsOk w i → Task i ok n l
+    pub task-reads : t ≡ readsOk w i → Task i (r .ok) (r .changes) l
+    unfolding scanOk
+    task-reads e = scanned-not _ _ _ r l f (rw (← e, not-true t z, and-false (restOk w i), and-false (freshAllOk w i)) (and-false (headOk w i)))
+
+  -- all tests hold
+  pub task-fine : (i : ℕ) (h f r s : Bool) (n : ℕ) (l : List ℕ) → h ≡ headOk w i → not h ≡ false → Scanned (freshAllOk w i) (changesOf w i) (kept w (suc i)) f n l → not f ≡ false
+      → r ≡ restOk w i → not r ≡ false → s ≡ readsOk w i → not s ≡ false → Task i f n l
   unfolding scanOk
-  task-reads i h f r ok n l a a′ b b′ c c′ d =
+  task-fine i h f r s n l a a′ b b′ c c′ d d′ =
       record {
-        tested = d ∙ sym (rw (sym a ∙ not-false h a′, sym (b .tested) ∙ not-false f b′, sym c ∙ not-false r c′));
-        counts = λ _. b .counts (not-false f b′);
-        keeps = λ _. b .keeps (not-false f b′);
+        tested = not-false f b′ ∙ sym (rw (sym a ∙ not-false h a′, sym (b .tested) ∙ not-false f b′, sym c ∙ not-false r c′) (sym d ∙ not-false s d′));
+        counts = b .counts;
+        keeps = b .keeps;
       }
+
+  -- the count of a test that holds
+  scanned-count : (test : Bool) (count : ℕ) (f : ℕ → ℕ) (ok : Bool) (n : ℕ) (l : List ℕ) → Scanned test count f ok n l → ok ≡ true → n ≡ count
+  scanned-count test count f ok n l s h = s .counts ∙ rw h
 
   -- all tasks
 
@@ -101,7 +108,7 @@ module _ (w : List ℕ) where
   pub task-few : (i c : ℕ) (ok : Bool) (m : List ℕ) → Task i ok c m → not ok ≡ false → c ≤ 8
   task-few i c ok m t z =
       let s = not-false ok z in
-      omega (arith, t .counts s, count-le (changed w i) (accessesOf w i), scan-head i (sym (t .tested) ∙ s) .few)
+      omega (arith, scanned-count _ _ _ ok c m t s, count-le (changed w i) (accessesOf w i), scan-head i (sym (t .tested) ∙ s) .few)
 
   pub scanning-more : (i n c : ℕ) (ok : Bool) (l m : List ℕ) → Scanning i n l → Task i ok c m → not ok ≡ false → Scanning (i + 1) (n + c) m
   scanning-more i n c ok l m k t z =
@@ -110,7 +117,7 @@ module _ (w : List ℕ) where
       let o = k .state in
       record {
         tested = all-more (scanOk w) i true true (k .tested) (sym e);
-        counts = sum-more (changesOf w) i n c (k .counts) (t .counts s);
+        counts = sum-more (changesOf w) i n c (k .counts) (scanned-count _ _ _ ok c m t s);
         few = omega (arith, task-few i c ok m t z, k .few);
         state = rw add-one (record {
           size = o .size;
@@ -125,8 +132,9 @@ module _ (w : List ℕ) where
   abbrev pub Tasks : Bool → ℕ → List ℕ → Type 0
   Tasks ok n l = Scanned (tasksScanOk w) (changeCount w) (kept w (tasksOf w)) ok n l
 
-  pub scanning-not : (i c n : ℕ) (t ok : Bool) (m l : List ℕ) → Task i t c m → not t ≡ true → i < tasksOf w → ok ≡ false → Tasks ok n l
-  scanning-not i c n t ok m l k z b f = scanned-not _ _ _ ok n l f (all-fails (scanOk w) (tasksOf w) i b (sym (k .tested) ∙ not-true t z))
+  pub scanning-not : (i c : ℕ) (t : Bool) (r : Checked) (m l : List ℕ) → Task i t c m → not t ≡ true → i < tasksOf w → r ≡ record { ok = false; changes = 0 }
+      → Tasks (r .ok) (r .changes) l
+  scanning-not i c t r m l k z b f = scanned-not _ _ _ r l f (all-fails (scanOk w) (tasksOf w) i b (sym (k .tested) ∙ not-true t z))
 
   pub scanning-done : (i n : ℕ) (l : List ℕ) → Scanning i n l → tasksOf w ≤ i → i ≤ tasksOf w → Tasks true n l
   unfolding changeCount
@@ -134,6 +142,6 @@ module _ (w : List ℕ) where
       let e : i ≡ tasksOf w = omega arith in
       record {
         tested = all-done (scanOk w) (tasksOf w) i true (k .tested) p q;
-        counts = λ _. sum-done (changesOf w) (tasksOf w) i n (k .counts) p q;
+        counts = sum-done (changesOf w) (tasksOf w) i n (k .counts) p q;
         keeps = λ _. rw e at (k .state .keeps);
       }

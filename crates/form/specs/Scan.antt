@@ -21,11 +21,11 @@ pub record Keeps (f : ℕ → ℕ) (l : List ℕ) : Type 0 where
   pub size : length l ≡ maxRegions
   pub word : (g : ℕ) → g < maxRegions → getD l g 0 ≡ f g
 
--- what a scan answers: whether a test holds, and where it does a count, and in the list l a word f
--- g for each region g
+-- what a scan answers: whether a test holds, a count where it does, else 0, and where it does in
+-- the list l a word f g for each region g
 pub record Scanned (test : Bool) (count : ℕ) (f : ℕ → ℕ) (ok : Bool) (changes : ℕ) (l : List ℕ) : Type 0 where
   pub tested : ok ≡ test
-  pub counts : ok ≡ true → changes ≡ count
+  pub counts : changes ≡ cond ok count 0
   pub keeps : ok ≡ true → Keeps f l
 
 -- a kernel that permits any number of reads
@@ -110,8 +110,8 @@ module _ (w : List ℕ) where
     pub ranks : (j : ℕ) → j < i → rankOf w j < maxRanks
     pub keeps : Keeps (kept i) l
 
-  -- the whole scan: the words are in form, but for the number of transfers; and where they are, the
-  -- changes are counted
+  -- the whole scan: the words are in form, but for the number of transfers; and the changes, 0
+  -- where they are not
   pub record Answer (ok : Bool) (changes : ℕ) : Type 0 where
     pub formed : ok ≡ wordsOk w
-    pub counts : ok ≡ true → changes ≡ changeCount w
+    pub counts : changes ≡ cond ok (changeCount w) 0

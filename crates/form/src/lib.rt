@@ -1,10 +1,10 @@
 // Whether the words of a plan are in form (plan/specs/Form.antt), and the ranks that want what its
 // accesses write. Nothing here changes a plan.
 ghost use mathlib.Core.Path.{_≡_};
-ghost use mathlib.Core.Bool.{true};
+ghost use mathlib.Core.Bool.{cond};
 ghost use lib.ListN.{length, replicate};
 ghost use Rattle.plan.specs.Layout.{planWords};
-ghost use Rattle.plan.specs.Form.{inForm};
+ghost use Rattle.plan.specs.Form.{inForm, wordsOk};
 ghost use Rattle.transfers.specs.Wanted.{planMasks, wantedMasks};
 
 mod words;
@@ -29,13 +29,13 @@ pub fn in_form(words: &[u64]) -> bool
     transfer_count(words) <= MAX_TRANSFERS
 }
 
-// Whether the words are in form. Puts the masks of their transfers where there are zeros; where the
-// words are not in form, what it leaves there means nothing.
+// Whether the words are in form. Puts the masks of their transfers where there are zeros, also
+// where the transfers are too many; where the words fail otherwise, the zeros stay.
 pub fn find_masks(words: &[u64], wanted: &mut [u16]) -> bool
     requires { ⌜ (length (now words) ≡ planWords) × (now wanted ≡ replicate planMasks 0) ⌝ }
     ensures { λ r. ⌜
         (r ≡ inForm (now (words .entry)))
-        × (r ≡ true → now (wanted .exit) ≡ wantedMasks (now (words .entry)))
+        × (now (wanted .exit) ≡ cond (wordsOk (now (words .entry))) (wantedMasks (now (words .entry))) (now (wanted .entry)))
         ⌝ }
 {
     let checked = words::words_ok(words);

@@ -37,14 +37,14 @@ use plan::limits::MAX_TASKS;
 use plan::numbers::as_index;
 
 // What the test finds: whether the words are in form, and how often an access changes the rank of
-// its region.
+// its region, 0 where they are not.
 pub(crate) struct Checked {
     pub(crate) ok: bool,
     pub(crate) changes: u64,
 }
 
 fn refused() -> Checked
-    ensures { λ r. ⌜ r .ok ≡ false ⌝ }
+    ensures { λ r. ⌜ r ≡ record { ok = false; changes = 0 } ⌝ }
 {
     Checked {
         ok: false,
@@ -176,10 +176,10 @@ fn scan_task(plan: &[u64], last: &mut [u64], i: usize) -> Checked
     if !rest_ok(plan, i) {
         return refused();
     }
-    Checked {
-        ok: reads_ok(plan, i),
-        changes: named.changes,
+    if !reads_ok(plan, i) {
+        return refused();
     }
+    named
 }
 
 // The same of every task that the plan has.
@@ -251,8 +251,8 @@ pub(crate) fn words_ok(plan: &[u64]) -> Checked
     if !scanned.ok {
         return refused();
     }
-    Checked {
-        ok: behind_regions(plan, &last) & behind_tasks(plan),
-        changes: scanned.changes,
+    if !(behind_regions(plan, &last) & behind_tasks(plan)) {
+        return refused();
     }
+    scanned
 }

@@ -13,7 +13,7 @@ use Rattle.finite.proofs.Below.{any-next, any-never}
 use Rattle.finite.proofs.Members.{mem-gather}
 use Rattle.body.specs.Items.{task}
 use Rattle.edges.specs.Touch.{touch}
-use Rattle.plan.specs.Layout.{reads, writes, accessRegion, accessesOf, accessAt, regionAt, isRead, isWritten, bodyOf}
+use Rattle.plan.specs.Layout.{reads, writes, accessRegion, regionsOf, accessesOf, accessAt, regionAt, isRead, isWritten, bodyOf}
 use Rattle.graph.specs.Table.{Task}
 
 -- an access that does not write reads
@@ -62,6 +62,9 @@ module _ (w : List ℕ) (i : ℕ) where
 
   -- access k is passed, whose word is `access`
   module _ (k access : ℕ) (T : Task w i) (below : k < accessesOf w i) (word : access ≡ accessAt w i k) where
+    pub region-within : accessRegion access < regionsOf w
+    region-within = rw word (T .within k below)
+
     pub touch-fresh : touchTo k (accessRegion access) ≡ 0
     unfolding touchTo
     touch-fresh = rw (word, named-fresh (isWritten w i) k (regionAt w i k) T below refl, named-fresh (isRead w i) k (regionAt w i k) T below refl)

@@ -67,4 +67,4 @@ module _ (w items : List ℕ) (n : ℕ) (G : Graph w items n) where
       task-ready i z e =
           let l : i < tasksOf w = tasks-listed (bodyOf w) i .0 (a, omega (arith, G .count), code-task z ∙ ap task (sym e)) in
           let u = form .used i l in
-          record { long = G .long; below = omega (arith, form .tasks-most); few = u .accesses-most; apart = u .apart }
+          record { long = G .long; below = omega (arith, form .tasks-most); few = u .accesses-most; within = u .region-below; apart = u .apart }

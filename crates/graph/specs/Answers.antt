@@ -46,7 +46,7 @@ abbrev pub three : Triple → List ℕ
 three (a, b, d) = a ∷ b ∷ d ∷ []
 
 -- all edges in order in the lent slice `list`, and their number; what lies behind them stays. There
--- is one list l (Laws .unique)
+-- is one list l (graph/specs/Laws.antt, `unique`)
 pub record EdgesAnswer (w list : List ℕ) (r : Number) (list′ : List ℕ) : Type 0 where
   pub refusal : r .refusal ≡ refusalOf (longPlan w && leb edgeWords (length list)) (formedPlan w) true
   pub listed : r .refusal ≡ 0 → (l : List Triple) × AllEdges (planBody w) l × (r .number ≡ length l)

@@ -10,7 +10,7 @@ use Rattle.body.specs.Body.{Body}
 use Rattle.body.specs.Items.{Item, task, send, receive, kindOf, itemRank, itemList, itemCount, itemAt}
 use Rattle.plan.specs.Limits.{maxTasks, maxAccesses}
 use Rattle.plan.specs.Sizes.{maxItems}
-use Rattle.plan.specs.Layout.{planWords, accessesOf, regionAt, bodyOf}
+use Rattle.plan.specs.Layout.{planWords, regionsOf, accessesOf, regionAt, bodyOf}
 use Rattle.plan.specs.Code.{codeFrom}
 use Rattle.plan.specs.Form.{inForm}
 
@@ -40,4 +40,5 @@ pub record Task (w : List ℕ) (i : ℕ) : Type 0 where
   pub long : length w ≡ planWords
   pub below : i < maxTasks
   pub few : accessesOf w i ≤ maxAccesses
+  pub within : (a : ℕ) → a < accessesOf w i → regionAt w i a < regionsOf w
   pub apart : (a b : ℕ) → a < accessesOf w i → b < accessesOf w i → regionAt w i a ≡ regionAt w i b → a ≡ b

@@ -4,10 +4,9 @@ use mathlib.Core.Path.{_≡_, refl, sym, _∙_, ap, ap₂}
 use mathlib.Core.Bool.{Bool, true, false, cond, not}
 use mathlib.Core.List.{List, [], _∷_, _++_, map, flatMap}
 use native.Mathlib.Omega.{arith}
-use borrow.Author.Tests.{lt-ltb, le-ltb, not-false}
+use borrow.Author.Tests.{lt-ltb, le-ltb, not-true, not-false}
 use lib.Dec.{eqb}
-use lib.ListN.{length, getD, drop, length-map, take-append-drop}
-use lib.Seq.{getD-take}
+use lib.ListN.{length, getD, drop, length-map, take-append-drop, List·getD-append}
 use Rattle.finite.specs.Lists.{gather, collect}
 use Rattle.finite.proofs.Collect.{collect-range, collect-ext, collect-beyond, collect-never, map-collect, flatMap-collect, flatMap-gather, map-flatMap, getD-map}
 use Rattle.body.specs.Body.{Body}
@@ -18,11 +17,12 @@ use Rattle.plan.specs.Limits.{maxRanks, maxTasks, maxAccesses}
 use Rattle.plan.specs.Sizes.{maxItems}
 use Rattle.plan.specs.Layout.{planWords, ranksOf, tasksOf, rankOf, accessesOf, regionAt, isWritten, bodyOf}
 use Rattle.plan.specs.Code.{codeFrom}
-use Rattle.plan.specs.Form.{inForm}
+use Rattle.plan.specs.Form.{inForm, wordsOk}
 use Rattle.transfers.specs.Wanted.{wantedAt, wantedMasks}
 use Rattle.plan.proofs.Facts.{Formed, formed}
 use Rattle.transfers.proofs.Masks.{mask-bit, mask-at}
 use Rattle.graph.specs.Added.{Added}
+use Rattle.items.specs.declared.Made.{Made}
 use Rattle.items.specs.Codes.{pairCodes, hasRank, pairIf, maskCodes, accessCodes, taskCodes, allCodes, Coded}
 use Rattle.graph.specs.Table.{codeOf, tableOf, Graph}
 use Rattle.graph.proofs.Small.{form-words, form-transfers}
@@ -125,17 +125,34 @@ form-formed w h = formed w (form-words w h)
 items-most : (w : List ℕ) → inForm w ≡ true → itemCount (bodyOf w) ≤ maxItems
 items-most w h = omega (arith, items-counted (bodyOf w), form-formed w h .tasks-most, form-transfers w h)
 
+-- a table of a plan's items, whatever stands behind them
+pub table-graph : (w rest : List ℕ) → length w ≡ planWords → inForm w ≡ true → Graph w (tableOf (bodyOf w) ++ rest) (itemCount (bodyOf w))
+unfolding itemAt
+table-graph w rest long h =
+    record {
+      long = long;
+      formed = h;
+      count = refl;
+      most = items-most w h;
+      each = λ a k.
+          List·getD-append (tableOf (bodyOf w)) rest 0 a (omega (arith, length-map (itemList (bodyOf w)) (codeOf (bodyOf w))))
+          ∙ getD-map (codeOf (bodyOf w)) (itemList (bodyOf w)) a (task 0) 0 k;
+    }
+
+-- words that are found not in form
+pub not-made : (w items : List ℕ) (found : Bool) → found ≡ inForm w → not found ≡ true →
+    _≡_ {A = Made} (record { formed = false; count = 0 }) (record { formed = inForm w; count = cond (inForm w) (itemCount (bodyOf w)) 0 })
+    × (items ≡ cond (inForm w) (tableOf (bodyOf w) ++ drop (itemCount (bodyOf w)) items) items)
+not-made w items found e z = rw (sym e ∙ not-true found z) (refl, refl)
+
 -- words that are found in form, and the masks of their transfers
-module _ (w masks : List ℕ) (found : Bool) (long : length w ≡ planWords)
-    (F : (found ≡ inForm w) × (found ≡ true → masks ≡ wantedMasks w)) (met : not found ≡ false) where
+module _ (w masks zeros : List ℕ) (found : Bool) (long : length w ≡ planWords)
+    (F : (found ≡ inForm w) × (masks ≡ cond (wordsOk w) (wantedMasks w) zeros)) (met : not found ≡ false) where
   form : inForm w ≡ true
   form = sym (F .0) ∙ not-false found met
 
-  pub form-met : true ≡ inForm w
-  form-met = sym form
-
   codes-are : allCodes w masks (tasksOf w) ≡ tableOf (bodyOf w)
-  codes-are = list-coded w masks (form-formed w form) (masks-wanted w masks (F .1 (not-false found met)))
+  codes-are = list-coded w masks (form-formed w form) (masks-wanted w masks (F .1 ∙ rw (form-words w form)))
 
   codes-counted : length (allCodes w masks (tasksOf w)) ≡ itemCount (bodyOf w)
   codes-counted = ap length codes-are ∙ length-map (itemList (bodyOf w)) (codeOf (bodyOf w))
@@ -151,22 +168,10 @@ module _ (w masks : List ℕ) (found : Bool) (long : length w ≡ planWords)
         room = omega (arith, codes-counted, items-most w form);
       }
 
-  -- what the table holds after the code has filled it
-  module _ (items items′ : List ℕ) (r : ℕ) (p : Added items items′ 0 r (allCodes w masks (tasksOf w))) where
-    pub table-made : Graph w items′ r
-    unfolding itemAt
-    table-made =
-        let n : r ≡ itemCount (bodyOf w) = omega (arith, p .count, codes-counted) in
-        record {
-          long = long;
-          formed = form;
-          count = n;
-          most = omega (arith, items-most w form);
-          each = λ a k.
-              sym (getD-take r items′ a 0 k)
-              ∙ (ap (λ (x : List ℕ). getD x a 0) (p .front ∙ codes-are)
-              ∙ getD-map (codeOf (bodyOf w)) (itemList (bodyOf w)) a (task 0) 0 (omega arith));
-        }
-
-    pub table-whole : items′ ≡ tableOf (bodyOf w) ++ drop r items
-    table-whole = sym (take-append-drop r items′) ∙ ap₂ _++_ (p .front ∙ codes-are) (p .behind)
+  -- the answer, and what the table holds after the code has filled it
+  pub table-made : (items items′ : List ℕ) (r : ℕ) → Added items items′ 0 r (allCodes w masks (tasksOf w)) →
+      _≡_ {A = Made} (record { formed = true; count = r }) (record { formed = inForm w; count = cond (inForm w) (itemCount (bodyOf w)) 0 })
+      × (items′ ≡ cond (inForm w) (tableOf (bodyOf w) ++ drop (itemCount (bodyOf w)) items) items)
+  table-made items items′ r p =
+      let n : r ≡ itemCount (bodyOf w) = omega (arith, p .count, codes-counted) in
+      rw (form, ← n) (refl, sym (take-append-drop r items′) ∙ ap₂ _++_ (p .front ∙ codes-are) (p .behind))

@@ -2,16 +2,17 @@
 // (graph/specs/Table.antt), put there in the order of the items.
 ghost use Prim.Native.Nat.{_+_, _≤_, _<_};
 ghost use mathlib.Core.Path.{_≡_};
-ghost use mathlib.Core.Bool.{true, cond};
+ghost use mathlib.Core.Bool.{cond};
 ghost use mathlib.Core.List.{_∷_, [], _++_};
 ghost use lib.ListN.{length, drop};
 ghost use Rattle.finite.specs.Lists.{collect};
+ghost use Rattle.body.specs.Items.{itemCount};
 ghost use Rattle.plan.specs.Limits.{maxRanks, maxRegions, maxTasks, maxAccesses};
 ghost use Rattle.plan.specs.Sizes.{maxItems};
 ghost use Rattle.plan.specs.Layout.{planWords, rankOf, tasksOf, bodyOf};
 ghost use Rattle.plan.specs.Form.{inForm};
 ghost use Rattle.graph.specs.Added.{Added};
-ghost use Rattle.graph.specs.Table.{tableOf, Graph};
+ghost use Rattle.graph.specs.Table.{tableOf};
 ghost use Rattle.items.specs.Codes.{pairCodes, maskCodes, accessCodes, taskCodes, allCodes, Coded};
 use plan::code::RECEIVE;
 use plan::code::SEND;
@@ -118,7 +119,7 @@ fn put_items(items: &mut [u16], plan: &[u64], masks: &[u16; PLAN_MASKS]) -> usiz
     at
 }
 
-// A table of a plan's items, and their number; not made where the plan is not in form.
+// A table of a plan's items, and their number; not made, and 0, where the plan is not in form.
 pub struct Made {
     pub formed: bool,
     pub count: usize,
@@ -128,9 +129,9 @@ pub struct Made {
 pub fn make_table(plan: &[u64], items: &mut [u16]) -> Made
     requires { ⌜ (length (now plan) ≡ planWords) × (length (now items) ≡ maxItems) ⌝ }
     ensures { λ r. ⌜
-        (r .formed ≡ inForm (now (plan .entry)))
-        × (r .formed ≡ true → Graph (now (plan .entry)) (now (items .exit)) (r .count))
-        × (now (items .exit) ≡ cond (r .formed) (tableOf (bodyOf (now (plan .entry))) ++ drop (r .count) (now (items .entry))) (now (items .entry)))
+        (r ≡ record { formed = inForm (now (plan .entry)); count = cond (inForm (now (plan .entry))) (itemCount (bodyOf (now (plan .entry)))) 0 })
+        × (now (items .exit) ≡ cond (inForm (now (plan .entry)))
+        (tableOf (bodyOf (now (plan .entry))) ++ drop (itemCount (bodyOf (now (plan .entry)))) (now (items .entry))) (now (items .entry)))
         ⌝ }
 {
     let mut masks = [0u16; PLAN_MASKS];

@@ -27,7 +27,8 @@ firstHeld = 2688
 abbrev pub slotOf : ℕ → ℕ → ℕ
 slotOf kind a = firstSlot + (a + 1) - kind
 
--- edges: three numbers for each of maxEdges, and no plan has more (graph, Laws .room)
+-- edges: three numbers for each of maxEdges, and no plan has more
+-- (graph/specs/Laws.antt, `room`)
 abbrev pub edgeWords : ℕ
 edgeWords = 12672
 

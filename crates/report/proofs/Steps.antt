@@ -28,7 +28,9 @@ use Rattle.steps.specs.Turns.{Over}
 use Rattle.steps.proofs.Accepting.{open-accepted, start-clear, start-rule, finish-clear, finish-can}
 use Rattle.steps.proofs.Running.{taken-accepted}
 use Rattle.taskiter.specs.Demands.{AtEnd, InAnyOrder, Complete}
-use Rattle.taskiter.proofs.AnyOrder.{open-order}
+use Rattle.taskiter.specs.Run.{Run}
+use Rattle.taskiter.proofs.AnyOrder.{open-order, open-clear}
+use Rattle.taskiter.proofs.Ending.{taken-only, complete-over}
 use Rattle.report.specs.Report.{lowest, nextStep, followed, stepsFrom, mostSteps}
 
 -- what is known of the lowest number that t picks below n
@@ -191,3 +193,20 @@ module _ (plan counts values : List ℕ) (opens : openOf plan counts values .ref
       let t = play plan s l in
       (resultOf plan (t .counts) (t .values) g .refusal ≡ 0) × (resultOf plan (t .counts) (t .values) g .word ≡ loopFinal (planBody plan) g)
   steps-results g h = let a = order l .accepts-results g h .0 steps-end in (a, order l .final g a)
+
+  over-after : (k : List Call) → Complete (planBody plan) (stateOf (play plan s k .counts) (play plan s k .values)) → Over plan (play plan s k)
+  over-after k = complete-over plan (play plan s k) (open-clear plan counts values opens k)
+
+  pub steps-run : Run plan s (play plan s l) (accepted plan isStep s l)
+  steps-run =
+      record {
+        calls = l;
+        taken = steps-taken plan mostSteps s;
+        all-accepted = steps-accepted;
+        reached = refl;
+        counted = steps-accepted;
+        complete = steps-complete;
+        total = steps-total;
+        only = λ k t c. taken-only plan s k l t (steps-taken plan mostSteps s) (over-after k c) (over-after l steps-complete);
+        results = steps-results;
+      }

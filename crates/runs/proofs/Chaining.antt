@@ -1,24 +1,30 @@
 -- Chains of edges: how they are made, and that following the chain of an item tests its waits.
-use Prim.Native.Nat.{ℕ, zero, suc, _+_, _-_, _≤_, _<_}
+use Prim.Native.Nat.{ℕ, zero, suc, _+_, _-_, _≤_, _<_, min}
 use mathlib.Core.Path.{_≡_, refl, sym, _∙_, ap, subst}
 use mathlib.Core.Bool.{Bool, true, false, cond, not, _||_}
 use mathlib.Core.List.{List}
 use native.Mathlib.Decide.{ℕ-discrete}
+use native.Mathlib.Nat.{min-le-left, min-le-right}
 use native.Mathlib.Numerals.{add-one}
 use native.Mathlib.Omega.{arith}
 use borrow.Author.Tests.{eqb-true, ltb-true, ltb-false, eq-eqb, lt-ltb, le-ltb}
 use lib.Dec.{eqb, ltb, leb}
-use lib.ListN.{length, getD, set, replicate, length-set, getD-replicate}
-use lib.Seq.{getD-set-other}
+use lib.ListN.{length, getD, set, replicate, length-set, length-replicate, getD-replicate}
+use Rattle.finite.specs.Lists.{tabulate}
+use Rattle.finite.specs.Update.{replaced}
 use Rattle.finite.proofs.Below.{below-suc, all-of, all-fails}
 use Rattle.finite.proofs.Tests.{and-intro, and-true, eqb-comm, not-both, false-of}
+use Rattle.finite.proofs.Lists.{length-tabulate, getD-tabulate}
+use Rattle.finite.proofs.Tabulate.{tabulate-list}
 use Rattle.finite.proofs.Update.{set-at}
+use Rattle.finite.proofs.Replaced.{list-ext, length-replaced, replaced-at}
 use Rattle.body.specs.Items.{itemCount}
 use Rattle.edges.specs.Tests.{edgeTest, metTest, waitsTest}
 use Rattle.plan.specs.Sizes.{maxItems, maxEdges}
 use Rattle.plan.specs.Layout.{bodyOf, passesOf}
 use Rattle.steps.specs.Turns.{doneBy, isReady}
-use Rattle.runs.specs.Chains.{fromAt, toAt, lastTo, Ends, Chained, Bounded, Edges, FirstReady}
+use Rattle.values.proofs.Opening.{filled-more}
+use Rattle.runs.specs.Chains.{fromAt, toAt, lastTo, lowestTo, Ends, Chained, Bounded, Edges, FirstReady}
 
 -- the ends of an edge
 
@@ -63,74 +69,124 @@ module _ (edges : List ℕ) where
             | no n ↦ f i (omega (arith, n)) h
           ]
 
-  -- making the chains
+  -- making the chains: a loop's laws, before its first turn, over a turn and after its last
 
-  pub chain-none : (heads nexts : List ℕ) → heads ≡ replicate maxItems 0 → Chained edges 0 heads nexts
-  unfolding lastTo
-  chain-none heads nexts z = record { first = λ b l. rw z (getD-replicate maxItems b 0 0 l); next = λ e l. absurd (omega arith) }
+  -- for each edge one more than the last before it that leads to the same item
+  abbrev before : ℕ → ℕ
+  before e = lastTo edges e (toAt edges e)
 
-  chain-more : (heads nexts : List ℕ) (e b v : ℕ) → Chained edges e heads nexts → b ≡ toAt edges e → length heads ≡ maxItems → b < maxItems → e < length nexts → v ≡ e + 1 →
-      Chained edges (e + 1) (set heads b v) (set nexts e (getD heads b 0))
+  pub heads-none : (heads : List ℕ) → heads ≡ replicate maxItems 0 → heads ≡ tabulate maxItems (lastTo edges 0)
   unfolding lastTo
-  chain-more heads nexts e b v C to size lb le ve =
-      rw (add-one e) (record { first = first; next = below-suc (λ d. getD (set nexts e (getD heads b 0)) d 0 ≡ lastTo edges d (toAt edges d)) e before own })
+  heads-none heads z =
+      list-ext heads (tabulate maxItems (λ b. 0)) (sized ∙ sym (length-tabulate {X = ℕ} (λ b. 0) maxItems))
+      (λ b l. rw z (getD-replicate {A = ℕ} maxItems b 0 0 (omega (arith, sized))) ∙ sym (getD-tabulate {X = ℕ} (λ b. 0) maxItems b 0 (omega (arith, sized))))
     where
-      first : (c : ℕ) → c < maxItems → getD (set heads b v) c 0 ≡ lastTo edges (suc e) c
-      first c l =
-          set-at heads b c v 0 (omega arith)
+      sized : length heads ≡ maxItems
+      sized = ap length z ∙ length-replicate {A = ℕ} maxItems 0
+
+  heads-more : (heads : List ℕ) (e b v : ℕ) → heads ≡ tabulate maxItems (lastTo edges e) → b ≡ toAt edges e → b < maxItems → v ≡ e + 1 →
+      set heads b v ≡ tabulate maxItems (lastTo edges (e + 1))
+  unfolding lastTo
+  heads-more heads e b v h to lb ve =
+      rw (add-one e) (list-ext (set heads b v) (tabulate maxItems (lastTo edges (suc e))) (length-set heads b v ∙ (sized ∙ sym (length-tabulate (lastTo edges (suc e)) maxItems)))
+      (λ c l. each c (omega (arith, length-set heads b v, sized))))
+    where
+      sized : length heads ≡ maxItems
+      sized = ap length h ∙ length-tabulate (lastTo edges e) maxItems
+
+      each : (c : ℕ) → c < maxItems → getD (set heads b v) c 0 ≡ getD (tabulate maxItems (lastTo edges (suc e))) c 0
+      each c l =
+          set-at heads b c v 0 (omega (arith, sized))
           ∙ (ap (λ (t : Bool). cond t v (getD heads c 0)) (eqb-comm c b ∙ ap (λ (x : ℕ). eqb x c) to)
           ∙ (ap (λ (x : ℕ). cond (eqb (toAt edges e) c) x (getD heads c 0)) (ve ∙ add-one e)
-          ∙ ap (cond (eqb (toAt edges e) c) (suc e)) (C .first c l)))
+          ∙ (ap (cond (eqb (toAt edges e) c) (suc e)) (ap (λ (x : List ℕ). getD x c 0) h ∙ getD-tabulate (lastTo edges e) maxItems c 0 l)
+          ∙ sym (getD-tabulate (lastTo edges (suc e)) maxItems c 0 l))))
 
-      before : (d : ℕ) → d < e → getD (set nexts e (getD heads b 0)) d 0 ≡ lastTo edges d (toAt edges d)
-      before d l = getD-set-other nexts e d (getD heads b 0) 0 (λ h. omega arith) ∙ C .next d l
-
-      own : getD (set nexts e (getD heads b 0)) e 0 ≡ lastTo edges e (toAt edges e)
-      own =
-          set-at nexts e e (getD heads b 0) 0 le
-          ∙ (ap (λ (t : Bool). cond t (getD heads b 0) (getD nexts e 0)) (eq-eqb e e refl)
-          ∙ (C .first b lb ∙ ap (lastTo edges e) to))
-
-  -- the loop's turn
-  pub chain-turn : (heads nexts : List ℕ) (m e b v : ℕ) → e < m → length heads ≡ maxItems → length nexts ≡ maxEdges → m ≤ maxEdges → Chained edges e heads nexts
-      → b ≡ toAt edges e → b < maxItems → v ≡ e + 1 →
-      (e + 1 ≤ m) × (length (set heads b v) ≡ maxItems) × (length (set nexts e (getD heads b 0)) ≡ maxEdges) × Chained edges (e + 1) (set heads b v) (set nexts e (getD heads b 0))
-  chain-turn heads nexts m e b v l hs ns ms C to lb ve = (
+  pub chain-turn : (nexts₀ heads nexts : List ℕ) (m e b v : ℕ) → e < m → length nexts₀ ≡ maxEdges → m ≤ maxEdges → heads ≡ tabulate maxItems (lastTo edges e)
+      → nexts ≡ replaced (λ d. ltb d e) before nexts₀ → b ≡ toAt edges e → b < maxItems → v ≡ e + 1 →
+      (e + 1 ≤ m) × (length (set heads b v) ≡ maxItems) × (length (set nexts e (getD heads b 0)) ≡ maxEdges) × (set heads b v ≡ tabulate maxItems (lastTo edges (e + 1)))
+      × (set nexts e (getD heads b 0) ≡ replaced (λ d. ltb d (e + 1)) before nexts₀)
+  chain-turn nexts₀ heads nexts m e b v l ns ms h n to lb ve = (
     omega arith,
-    length-set heads b v ∙ hs,
-    length-set nexts e (getD heads b 0) ∙ ns,
-    chain-more heads nexts e b v C to hs lb (omega arith) ve,
+    length-set heads b v ∙ (ap length h ∙ length-tabulate (lastTo edges e) maxItems),
+    length-set nexts e (getD heads b 0) ∙ (ap length n ∙ (length-replaced (λ d. ltb d e) before nexts₀ ∙ ns)),
+    heads-more heads e b v h to lb ve,
+    filled-more before nexts₀ nexts e (getD heads b 0) n (omega arith)
+        (ap (λ (x : List ℕ). getD x b 0) h ∙ (getD-tabulate (lastTo edges e) maxItems b 0 lb ∙ ap (lastTo edges e) to)),
   )
 
-  pub chain-done : (heads nexts : List ℕ) (m e : ℕ) → Chained edges e heads nexts → m ≤ e → e ≤ m → Chained edges m heads nexts
-  chain-done heads nexts m e C l k = let h : e ≡ m = omega arith in subst (λ (x : ℕ). Chained edges x heads nexts) h C
+  pub heads-done : (heads : List ℕ) (m e : ℕ) → heads ≡ tabulate maxItems (lastTo edges e) → m ≤ e → e ≤ m → heads ≡ tabulate maxItems (lastTo edges m)
+  heads-done heads m e h l k = let i : e ≡ m = omega arith in h ∙ ap (λ (x : ℕ). tabulate maxItems (lastTo edges x)) i
 
-  pub bound-none : (lowest : List ℕ) → Bounded edges 0 lowest
-  bound-none lowest = record { each = λ e l. absurd (omega arith) }
+  -- the chains that were made
+  pub chained : (heads nexts₀ nexts : List ℕ) (m : ℕ) → m ≤ length nexts₀ → heads ≡ tabulate maxItems (lastTo edges m) → nexts ≡ replaced (λ e. ltb e m) before nexts₀
+      → Chained edges m heads nexts
+  chained heads nexts₀ nexts m l h n =
+      record {
+        first = λ b k. ap (λ (x : List ℕ). getD x b 0) h ∙ getD-tabulate (lastTo edges m) maxItems b 0 k;
+        next = λ e k. ap (λ (x : List ℕ). getD x e 0) n ∙ (replaced-at (λ e. ltb e m) before nexts₀ e (omega arith) ∙ rw (lt-ltb e m k));
+      }
 
-  pub bound-more : (lowest : List ℕ) (e a b v : ℕ) → Bounded edges e lowest → a ≡ fromAt edges e → b ≡ toAt edges e → a < length lowest → v ≤ getD lowest a 0 → v ≤ b →
-      Bounded edges (e + 1) (set lowest a v)
-  bound-more lowest e a b v B from to la lo lb =
-      rw (add-one e) (record { each = below-suc (λ d. getD (set lowest a v) (fromAt edges d) 0 ≤ toAt edges d) e before own })
+  -- the lowest item that an edge leads to
+
+  pub lowest-none : (xs : List ℕ) → length xs ≡ maxItems → xs ≡ tabulate maxItems (λ a. lowestTo edges 0 a (getD xs a 0))
+  unfolding lowestTo
+  lowest-none xs e = sym (tabulate-list xs 0) ∙ ap (λ (n : ℕ). tabulate n (λ a. getD xs a 0)) e
+
+  pub lowest-more : (xs ys : List ℕ) (e a b v : ℕ) → ys ≡ tabulate maxItems (λ a. lowestTo edges e a (getD xs a 0)) → a ≡ fromAt edges e → b ≡ toAt edges e → a < maxItems
+      → v ≡ min (getD ys a 0) b → set ys a v ≡ tabulate maxItems (λ a. lowestTo edges (e + 1) a (getD xs a 0))
+  unfolding lowestTo
+  lowest-more xs ys e a b v h from to la ve =
+      rw (add-one e) (list-ext (set ys a v) (tabulate maxItems next) (length-set ys a v ∙ (sized ∙ sym (length-tabulate next maxItems)))
+      (λ c l. each c (omega (arith, length-set ys a v, sized)) ∙ sym (getD-tabulate next maxItems c 0 (omega (arith, length-set ys a v, sized)))))
     where
-      at : (x : ℕ) → getD (set lowest a v) x 0 ≤ getD lowest x 0
-      at x =
-          elim (ℕ-discrete x a) [
-            | yes h ↦ subst (λ (y : ℕ). getD (set lowest a v) y 0 ≤ getD lowest y 0) (sym h)
-                (let k : getD (set lowest a v) a 0 ≡ v = set-at lowest a a v 0 la ∙ rw (eq-eqb a a refl) in omega arith)
-            | no n ↦ (let k : getD (set lowest a v) x 0 ≡ getD lowest x 0 = getD-set-other lowest a x v 0 n in omega arith)
-          ]
+      here : ℕ → ℕ
+      here a = lowestTo edges e a (getD xs a 0)
 
-      before : (d : ℕ) → d < e → getD (set lowest a v) (fromAt edges d) 0 ≤ toAt edges d
-      before d l = omega (arith, at (fromAt edges d), B .each d l)
+      next : ℕ → ℕ
+      next a = lowestTo edges (suc e) a (getD xs a 0)
 
-      own : getD (set lowest a v) (fromAt edges e) 0 ≤ toAt edges e
-      own =
-          subst (λ (y : ℕ). getD (set lowest a v) y 0 ≤ toAt edges e) from
-          (let k : getD (set lowest a v) a 0 ≡ v = set-at lowest a a v 0 la ∙ rw (eq-eqb a a refl) in omega (arith, to))
+      sized : length ys ≡ maxItems
+      sized = ap length h ∙ length-tabulate here maxItems
 
-  pub bound-done : (lowest : List ℕ) (m e : ℕ) → Bounded edges e lowest → m ≤ e → e ≤ m → Bounded edges m lowest
-  bound-done lowest m e B l k = record { each = λ d h. B .each d (omega arith) }
+      word : (c : ℕ) → c < maxItems → getD ys c 0 ≡ here c
+      word c l = ap (λ (x : List ℕ). getD x c 0) h ∙ getD-tabulate here maxItems c 0 l
+
+      side : (c : ℕ) → c < maxItems → (t : Bool) → eqb a c ≡ t → cond t v (getD ys c 0) ≡ cond t (min (here c) (toAt edges e)) (here c)
+      side c l true q = let k : a ≡ c = eqb-true a c q in ve ∙ (rw to (ap (λ (x : ℕ). min (getD ys x 0) (toAt edges e)) k ∙ ap (λ (x : ℕ). min x (toAt edges e)) (word c l)))
+      side c l false q = word c l
+
+      each : (c : ℕ) → c < maxItems → getD (set ys a v) c 0 ≡ next c
+      each c l =
+          set-at ys a c v 0 (omega (arith, sized))
+          ∙ (ap (λ (t : Bool). cond t v (getD ys c 0)) (eqb-comm c a)
+          ∙ (side c l (eqb a c) refl ∙ ap (λ (x : ℕ). cond (eqb x c) (min (here c) (toAt edges e)) (here c)) from))
+
+  pub lowest-done : (xs ys : List ℕ) (m e : ℕ) → ys ≡ tabulate maxItems (λ a. lowestTo edges e a (getD xs a 0)) → m ≤ e → e ≤ m
+      → ys ≡ tabulate maxItems (λ a. lowestTo edges m a (getD xs a 0))
+  lowest-done xs ys m e h l k = let i : e ≡ m = omega arith in h ∙ ap (λ (n : ℕ). tabulate maxItems (λ a. lowestTo edges n a (getD xs a 0))) i
+
+  lowest-least : (k e most : ℕ) → e < k → lowestTo edges k (fromAt edges e) most ≤ toAt edges e
+  unfolding lowestTo
+  lowest-least zero e most l = absurd (omega arith)
+  lowest-least (suc k) e most l =
+      below-suc (λ e. cond (eqb (fromAt edges k) (fromAt edges e)) (min (lowestTo edges k (fromAt edges e) most) (toAt edges k)) (lowestTo edges k (fromAt edges e) most) ≤ toAt edges e) k
+      (λ e l. go e (eqb (fromAt edges k) (fromAt edges e)) (lowest-least k e most l))
+      (rw (eq-eqb (fromAt edges k) (fromAt edges k) refl) (min-le-right (lowestTo edges k (fromAt edges k) most) (toAt edges k)))
+      e l
+    where
+      go : (e : ℕ) (t : Bool) → lowestTo edges k (fromAt edges e) most ≤ toAt edges e →
+          cond t (min (lowestTo edges k (fromAt edges e) most) (toAt edges k)) (lowestTo edges k (fromAt edges e) most) ≤ toAt edges e
+      go e true h = omega (arith, min-le-left (lowestTo edges k (fromAt edges e) most) (toAt edges k))
+      go e false h = h
+
+  pub bounded : (xs ys : List ℕ) (m : ℕ) → Ends edges m → ys ≡ tabulate maxItems (λ a. lowestTo edges m a (getD xs a 0)) → Bounded edges m ys
+  bounded xs ys m E h =
+      record {
+        each = λ e l.
+            let k = ap (λ (x : List ℕ). getD x (fromAt edges e) 0) h ∙ getD-tabulate (λ a. lowestTo edges m a (getD xs a 0)) maxItems (fromAt edges e) 0 (E .from-below e l) in
+            omega (arith, k, lowest-least m e (getD xs (fromAt edges e) 0) l);
+      }
 
 -- following the chain of item b
 module _ (w edges counts : List ℕ) (m b : ℕ) where
@@ -226,14 +282,16 @@ module _ (w edges counts : List ℕ) (n m b : ℕ) (E : Edges w edges n m) (lb :
 
 -- looking for the lowest item that is ready: none of those from `low` to below b is
 pub record NoneReady (w counts : List ℕ) (low b : ℕ) : Type 0 where
+  pub from : low ≤ b
   pub none : (c : ℕ) → low ≤ c → c < b → isReady (bodyOf w) counts c ≡ false
 
 pub none-yet : (w counts : List ℕ) (low : ℕ) → NoneReady w counts low low
-none-yet w counts low = record { none = λ c l u. absurd (omega arith) }
+none-yet w counts low = record { from = omega arith; none = λ c l u. absurd (omega arith) }
 
 pub none-more : (w counts : List ℕ) (low b : ℕ) (r : Bool) → NoneReady w counts low b → r ≡ isReady (bodyOf w) counts b → r ≡ false → NoneReady w counts low (b + 1)
 none-more w counts low b r h e f =
     record {
+      from = omega (arith, h .from);
       none = λ c l u.
           elim (ℕ-discrete c b) [
             | yes k ↦ ap (isReady (bodyOf w) counts) k ∙ (sym e ∙ f)
@@ -242,7 +300,7 @@ none-more w counts low b r h e f =
     }
 
 pub first-is : (w counts : List ℕ) (n low b : ℕ) (r : Bool) → b < n → NoneReady w counts low b → r ≡ isReady (bodyOf w) counts b → r ≡ true → FirstReady w counts n low b
-first-is w counts n low b r l h e t = record { most = omega arith; none-before = h .none; ready = λ k. sym e ∙ t }
+first-is w counts n low b r l h e t = record { least = h .from; most = omega arith; none-before = h .none; ready = λ k. sym e ∙ t }
 
-pub first-none : (w counts : List ℕ) (n low b : ℕ) → n ≤ b → NoneReady w counts low b → FirstReady w counts n low n
-first-none w counts n low b l h = record { most = omega arith; none-before = λ c k u. h .none c k (omega arith); ready = λ k. absurd (omega arith) }
+pub first-none : (w counts : List ℕ) (n low b : ℕ) → low ≤ n → n ≤ b → NoneReady w counts low b → FirstReady w counts n low n
+first-none w counts n low b z l h = record { least = z; most = omega arith; none-before = λ c k u. h .none c k (omega arith); ready = λ k. absurd (omega arith) }

@@ -113,7 +113,7 @@ module _ (w : List ℕ) (F : Formed w) where
         done b = ap (λ (x : Lent). doneBy (x .counts) b) t ∙ ended-done w (plan-long w F) (plan-formed w F) (lent C W) (G .idle) a below ready none-lower b
 
         pub turn-first : (low b : ℕ) → low ≡ getD lowest a 0 → FirstReady w C2 n low b → FirstReady w C2 n 0 b
-        turn-first low b e Q = record { most = Q .most; none-before = none-before; ready = Q .ready }
+        turn-first low b e Q = record { least = omega arith; most = Q .most; none-before = none-before; ready = Q .ready }
           where
             none-before : (c : ℕ) → 0 ≤ c → c < b → isReady (bodyOf w) C2 c ≡ false
             none-before c z l = side (ltb c low) refl

@@ -1,6 +1,6 @@
 -- The edges of a plan as chains, one for each item: its last edge in, the one before, and so on. It
 -- serves the contracts of private functions: nothing here need be believed.
-use Prim.Native.Nat.{ℕ, zero, suc, _+_, _*_, _≤_, _<_}
+use Prim.Native.Nat.{ℕ, zero, suc, _+_, _*_, _≤_, _<_, min}
 use mathlib.Core.Path.{_≡_}
 use mathlib.Core.Bool.{true, false, cond}
 use mathlib.Core.List.{List}
@@ -39,6 +39,11 @@ module _ (edges : List ℕ) where
     pub first : (b : ℕ) → b < maxItems → getD heads b 0 ≡ lastTo m b
     pub next : (e : ℕ) → e < m → getD nexts e 0 ≡ lastTo e (toAt e)
 
+  -- the lowest item that one of the first k edges leads to from item a, at most `most`
+  unfoldable pub lowestTo : ℕ → ℕ → ℕ → ℕ
+  lowestTo zero a most = most
+  lowestTo (suc k) a most = cond (eqb (fromAt k) a) (min (lowestTo k a most) (toAt k)) (lowestTo k a most)
+
   -- a bound from below on the items that an edge leads to from an item
   pub record Bounded (m : ℕ) (lowest : List ℕ) : Type 0 where
     pub each : (e : ℕ) → e < m → getD lowest (fromAt e) 0 ≤ toAt e
@@ -54,6 +59,7 @@ pub record Edges (w edges : List ℕ) (n m : ℕ) : Type 0 where
 
 -- the lowest item from `low` on that is ready, n where none is
 pub record FirstReady (w counts : List ℕ) (n low a : ℕ) : Type 0 where
+  pub least : low ≤ a
   pub most : a ≤ n
   pub none-before : (b : ℕ) → low ≤ b → b < a → isReady (bodyOf w) counts b ≡ false
   pub ready : a < n → isReady (bodyOf w) counts a ≡ true

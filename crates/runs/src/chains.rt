@@ -1,12 +1,15 @@
 // The waits of each item as a chain of the edges into it, for a run that tests them often and makes
 // them once.
-ghost use Prim.Native.Nat.{_≤_, _<_};
+ghost use Prim.Native.Nat.{_≤_, _<_, min};
 ghost use mathlib.Core.Path.{_≡_};
-ghost use lib.ListN.{length, replicate};
+ghost use lib.Dec.{ltb};
+ghost use lib.ListN.{length, getD, replicate};
+ghost use Rattle.finite.specs.Lists.{tabulate};
+ghost use Rattle.finite.specs.Update.{replaced};
 ghost use Rattle.plan.specs.Layout.{bodyOf, passesOf};
 ghost use Rattle.plan.specs.Sizes.{maxItems, maxEdges, countWords};
 ghost use Rattle.steps.specs.Turns.{isReady};
-ghost use Rattle.runs.specs.Chains.{fromAt, toAt, Ends, Chained, Bounded, Edges, FirstReady};
+ghost use Rattle.runs.specs.Chains.{fromAt, toAt, lastTo, lowestTo, Ends, Chained, Edges, FirstReady};
 use plan::numbers::as_word;
 use plan::numbers::index_16;
 use plan::numbers::index_32;
@@ -37,7 +40,10 @@ fn target(edges: &[u32], e: usize, m: usize) -> usize
 // the last edge before each that leads to the same item; 0 is the end of a chain.
 pub(crate) fn chain_edges(edges: &[u32], m: usize, heads: &mut [u16], nexts: &mut [u16])
     requires { ⌜ Ends (now edges) m × (now heads ≡ replicate maxItems 0) × (length (now nexts) ≡ maxEdges) ⌝ }
-    ensures { λ _. ⌜ Chained (now (edges .entry)) m (now (heads .exit)) (now (nexts .exit)) ⌝ }
+    ensures { λ _. ⌜
+        (now (heads .exit) ≡ tabulate maxItems (lastTo (now (edges .entry)) m))
+        × (now (nexts .exit) ≡ replaced (λ e. ltb e m) (λ e. lastTo (now (edges .entry)) e (toAt (now (edges .entry)) e)) (now (nexts .entry)))
+        ⌝ }
 {
     let mut e: usize = 0;
     while e < m {
@@ -51,7 +57,7 @@ pub(crate) fn chain_edges(edges: &[u32], m: usize, heads: &mut [u16], nexts: &mu
 // The lower of two item numbers.
 fn lower(x: u16, y: usize) -> u16
     requires { ⌜ y < maxItems ⌝ }
-    ensures { λ r. ⌜ (r ≤ x) × (r ≤ y) ⌝ }
+    ensures { λ r. ⌜ r ≡ min x y ⌝ }
 {
     let own = index_16(x);
     if own < y {
@@ -60,10 +66,10 @@ fn lower(x: u16, y: usize) -> u16
     narrow_16(as_word(y))
 }
 
-// The lowest item that an edge leads to from each item, or less.
+// The lowest item that an edge leads to from each item, where it is lower than the word there.
 pub(crate) fn find_lowest(edges: &[u32], m: usize, lowest: &mut [u16])
     requires { ⌜ Ends (now edges) m × (length (now lowest) ≡ maxItems) ⌝ }
-    ensures { λ _. ⌜ Bounded (now (edges .entry)) m (now (lowest .exit)) ⌝ }
+    ensures { λ _. ⌜ now (lowest .exit) ≡ tabulate maxItems (λ a. lowestTo (now (edges .entry)) m a (getD (now (lowest .entry)) a 0)) ⌝ }
 {
     let mut e: usize = 0;
     while e < m {

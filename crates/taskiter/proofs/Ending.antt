@@ -51,7 +51,7 @@ module _ (plan : List ℕ) (s : Lent) where
   next-accepted (result g) n = absurd n
 
 -- so are two lists of them that lead to where no step is accepted
-taken-only : (plan : List ℕ) (s : Lent) (l k : List Call) → Taken plan s l → Taken plan s k → Over plan (play plan s l) → Over plan (play plan s k) → l ≡ k
+pub taken-only : (plan : List ℕ) (s : Lent) (l k : List Call) → Taken plan s l → Taken plan s k → Over plan (play plan s l) → Over plan (play plan s k) → l ≡ k
 unfolding Taken play
 taken-only plan s [] [] t u p q = refl
 taken-only plan s [] (d ∷ k) t (m, u) p q = let a = next-accepted plan s d m in absurd (p d (a .0) (a .1))
@@ -65,7 +65,7 @@ taken-only plan s (c ∷ l) (d ∷ k) (n, t) (m, u) p q =
     (subst (λ (x : Call). Over plan (play plan (lentBy (call plan s x)) l)) e p) q)
 
 -- where the loop is complete no step is accepted
-complete-over : (plan : List ℕ) (s : Lent) → Clear plan (s .counts) (s .values) → Complete (planBody plan) (stateOf (s .counts) (s .values)) → Over plan s
+pub complete-over : (plan : List ℕ) (s : Lent) → Clear plan (s .counts) (s .values) → Complete (planBody plan) (stateOf (s .counts) (s .values)) → Over plan s
 complete-over plan s k h (start a) z x =
     let r = start-rule plan (s .counts) (s .values) k a .0 x in omega (arith, r .left, h a (r .in-range))
 complete-over plan s k h (finish a) z x =

@@ -119,7 +119,7 @@ module _ (P C W : List ℕ) where
   open-passed l x e = e ∙ open-cut l
 
   -- a step or result that the door refuses
-  module _ (r : Entry) (table′ : List ℕ) (B : ByState P C (leb valueWords (length W)) r table′) where
+  module _ {table : List ℕ} (r : Entry) (table′ : List ℕ) (B : ByState P C (leb valueWords (length W)) table r table′) where
     module _ (n : r .refusal ≡ 0 → ⊥) where
       call-refused : (t : Bool) (x : Left) → refused P C W (r .refusal) ≡ cond (eqb (callRefusal P C W t) 0) x (refused P C W (callRefusal P C W t))
       call-refused t x =

@@ -50,13 +50,13 @@ two-values : (plan : List ℕ) (s : Lent) (l : List Call) (n v u : ℕ) → plan
 unfolding endLines collect
 two-values plan s l n v u regions steps first second = rw (regions, steps, first, second)
 
-lined : Lined w s l (play w s l)
+lined : Lined w s l
 lined = laws .accepted example w example-read
 
 end-lines : endLines w s l ≡ stepsLine 16 ++ (valueLine 0 7 ++ valueLine 1 13)
 end-lines =
-    two-values w s l 16 7 13 refl (lined .total ∙ ap (λ (n : ℕ). 2 * (2 * n)) (ap length (example-items 2)))
-    (lined .results 0 (omega arith) .1 ∙ final-two .0) (lined .results 1 (omega arith) .1 ∙ final-two .1)
+    two-values w s l 16 7 13 refl (lined .run .total ∙ ap (λ (n : ℕ). 2 * (2 * n)) (ap length (example-items 2)))
+    (lined .run .results 0 (omega arith) .1 ∙ final-two .0) (lined .run .results 1 (omega arith) .1 ∙ final-two .1)
 
 pub printed : linesOf example ≡
     ascii "item 0 task 0\nitem 1 send 0\nitem 2 receive 1\nitem 3 task 1\n"

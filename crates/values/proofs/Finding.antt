@@ -91,6 +91,15 @@ module _ (w : List ℕ) (a code : ℕ) (F : Found w a code) where
   pub found-receive : codeKind code ≡ 2 → (i : ℕ) × (q : ℕ) × (itemAt (bodyOf w) a ≡ receive i (codeSubject code) q)
   found-receive z = rw found-subject (receive-of (itemAt (bodyOf w) a) (sym found-kind ∙ z))
 
+  -- a send or receive moves one of the plan's regions
+  pub region-below : (codeKind code ≡ 0 → ⊥) → codeSubject code < regionsOf w
+  region-below z = go (itemAt (bodyOf w) a) found-kind found-subject (item-known (bodyOf w) a (F .below))
+    where
+      go : (x : Item) → codeKind code ≡ kindOf x → codeSubject code ≡ subjectOf x → Known (bodyOf w) x → codeSubject code < regionsOf w
+      go (task i) k s u = absurd (z k)
+      go (send i g q) k s u = rw s (fits .writes-below i g (u .below) (u .writes))
+      go (receive i g q) k s u = rw s (fits .writes-below i g (u .below) (u .writes))
+
   -- a receive has its send before it
   pub receive-least : codeKind code ≡ 2 → 1 ≤ a
   receive-least z = go (found-receive z)

@@ -1,28 +1,29 @@
 -- The places that an item writes.
 use Prim.Native.Nat.{ℕ, _+_, _-_, _*_, _≤_, _<_}
-use mathlib.Core.Path.{_≡_, refl, _∙_, ap, subst}
+use mathlib.Core.Path.{_≡_, refl, sym, _∙_, ap, subst}
 use mathlib.Core.Bool.{Bool, true, false, cond, not, _&&_, _||_, or-false}
 use mathlib.Core.List.{List, [], _∷_, _++_, map, append-nil}
 use native.Mathlib.Numerals.{add-one}
 use native.Mathlib.Omega.{arith}
-use borrow.Author.Tests.{leb-true, le-leb}
+use borrow.Author.Tests.{eqb-true, leb-true, le-leb}
 use lib.Dec.{eqb, leb}
 use lib.ListN.{length, set, take, drop}
 use Rattle.finite.specs.Lists.{mem, gather}
 use Rattle.finite.specs.Update.{replaced}
-use Rattle.finite.proofs.Tests.{and-true, and-intro, test-ext}
+use Rattle.finite.proofs.Tests.{not-both, and-true, and-intro, test-ext}
 use Rattle.finite.proofs.Members.{mem-append, mem-map, mem-map-from}
 use Rattle.finite.proofs.Replaced.{length-replaced, replaced-ext, replaced-where, replaced-none, replaced-one, replaced-set, replaced-twice, replaced-lent}
 use Rattle.body.specs.Body.{Body, firstSlot}
 use Rattle.body.specs.Items.{Item, task, send, receive, kindOf, itemRank, itemAt}
 use Rattle.body.specs.Places.{slot, copy, writesOf, system}
 use Rattle.edges.specs.Tests.{rankAt}
+use Rattle.edges.proofs.Touches.{Known, item-known}
 use Rattle.plan.specs.Sizes.{valueWords, slotOf}
 use Rattle.plan.specs.Code.{codeKind, codeSubject}
 use Rattle.plan.specs.Layout.{bodyOf, writesOf as taskWrites}
 use Rattle.graph.specs.Table.{subjectOf}
 use Rattle.values.specs.Items.{Found, regionsWritten}
-use Rattle.values.proofs.Finding.{number-most, found-kind, found-subject, found-task, receive-least}
+use Rattle.values.proofs.Finding.{facts, fits, number-most, found-kind, found-subject, found-task, receive-least}
 
 -- a loop that puts v at f k for each k of which p holds
 module _ (p : ℕ → Bool) (f : ℕ → ℕ) (v : ℕ) (xs : List ℕ) where
@@ -122,13 +123,25 @@ module _ (w : List ℕ) (a code : ℕ) (F : Found w a code) (v : ℕ) (xs : List
       let e : slotOf 2 a ≡ firstSlot + (a - 1) = omega (arith, h refl) in
       rw e (replaced-one xs (firstSlot + (a - 1)) v (omega (arith, number-most w a code F)))
 
-  -- the slot is written, then the part from `first` on is lent
-  pub places-written : (first at : ℕ) (ys zs : List ℕ) → valueWords ≤ length xs → first ≡ rankAt (bodyOf w) a * bodyOf w .regions → first ≤ 1920 →
-      at ≡ slotOf (codeKind code) a → ys ≡ cond (not (eqb (codeKind code) 0)) (set xs at v) xs →
-      zs ≡ replaced (λ g. mem g (regionsWritten (bodyOf w) (itemAt (bodyOf w) a))) (λ g. v) (take (length ys - first) (drop first ys)) →
-      take first ys ++ (zs ++ drop (length ys - first) (drop first ys)) ≡ replaced (λ x. mem x (system (bodyOf w) .writes a)) (λ x. v) xs
-  places-written first at ys zs l e m s h k =
-      replaced-lent written (λ g. v) first ys zs room k
+  -- an item writes copies of the plan's regions
+  written-within : (g : ℕ) → mem g (regionsWritten (bodyOf w) (itemAt (bodyOf w) a)) ≡ true → g < bodyOf w .regions
+  unfolding regionsWritten mem
+  written-within g = go (itemAt (bodyOf w) a) (item-known (bodyOf w) a (F .below))
+    where
+      go : (x : Item) → Known (bodyOf w) x → mem g (regionsWritten (bodyOf w) x) ≡ true → g < bodyOf w .regions
+      go (task i) k m = fits w a code F .writes-below i g k m
+      go (send i h q) k m = let z : _≡_ {A = Bool} false true = m in absurd (not-both z refl)
+      go (receive i h q) k m =
+          let e : g ≡ h = eqb-true g h (sym (or-false (eqb g h)) ∙ m) in
+          rw e (fits w a code F .writes-below i h (k .below) (k .writes))
+
+  -- the slot is written, then the copies of the item's rank are lent, from `first` to `last`
+  pub places-written : (first last at : ℕ) (ys zs : List ℕ) → valueWords ≤ length xs → first ≡ rankAt (bodyOf w) a * bodyOf w .regions → first ≤ 1920 →
+      last ≡ first + bodyOf w .regions → at ≡ slotOf (codeKind code) a → ys ≡ cond (not (eqb (codeKind code) 0)) (set xs at v) xs →
+      zs ≡ replaced (λ g. mem g (regionsWritten (bodyOf w) (itemAt (bodyOf w) a))) (λ g. v) (take (last - first) (drop first ys)) →
+      take first ys ++ (zs ++ drop (last - first) (drop first ys)) ≡ replaced (λ x. mem x (system (bodyOf w) .writes a)) (λ x. v) xs
+  places-written first last at ys zs l e m n s h k =
+      replaced-lent written (λ g. v) first last ys zs (omega arith) room (λ g i. omega (arith, written-within g i)) k
       ∙ (ap (replaced (λ y. leb first y && written (y - first)) (λ y. v)) put
       ∙ (replaced-twice slots (λ y. leb first y && written (y - first)) (λ y. v) (λ y. v) xs
       ∙ replaced-ext (λ y. (leb first y && written (y - first)) || slots y) (λ y. mem y (system (bodyOf w) .writes a)) (λ y. cond (leb first y && written (y - first)) v v) (λ y. v) xs
@@ -143,8 +156,8 @@ module _ (w : List ℕ) (a code : ℕ) (F : Found w a code) (v : ℕ) (xs : List
       put : ys ≡ replaced slots (λ y. v) xs
       put = h ∙ rw (s, found-kind w a code F) (slot-put (itemAt (bodyOf w) a) (λ z. receive-least w a code F (found-kind w a code F ∙ z)) l)
 
-      room : first ≤ length ys
-      room = omega (arith, ap length put, length-replaced slots (λ y. v) xs)
+      room : last ≤ length ys
+      room = omega (arith, ap length put, length-replaced slots (λ y. v) xs, facts w a code F .regions-most)
 
       same : (b : Bool) → cond b v v ≡ v
       same true = refl

@@ -12,9 +12,9 @@ ghost use Rattle.body.specs.Places.{system};
 ghost use Rattle.edges.specs.Tests.{rankAt};
 ghost use Rattle.plan.specs.Limits.{maxRegions};
 ghost use Rattle.plan.specs.Sizes.{valueWords};
-ghost use Rattle.plan.specs.Layout.{bodyOf, writesOf};
+ghost use Rattle.plan.specs.Layout.{regionsOf, bodyOf, writesOf};
 ghost use Rattle.graph.specs.Table.{Task};
-ghost use Rattle.values.specs.Items.{Found, regionsWritten};
+ghost use Rattle.values.specs.Items.{Formed, Found, regionsWritten};
 use plan::code::RECEIVE;
 use plan::code::SEND;
 use plan::code::TASK;
@@ -42,9 +42,17 @@ fn first_copy(plan: &[u64], code: u64, a: usize) -> usize
     as_index(item_rank(code) * regions_of(plan))
 }
 
+// How many copies a rank has.
+fn region_count(plan: &[u64]) -> usize
+    requires { ⌜ Formed (now plan) ⌝ }
+    ensures { λ r. ⌜ (r ≡ regionsOf (now (plan .entry))) × (r ≤ maxRegions) ⌝ }
+{
+    as_index(regions_of(plan))
+}
+
 // The word that task i computes from the copies of its rank.
 fn task_word(plan: &[u64], i: usize, copies: &[u64]) -> u64
-    requires { ⌜ Task (now plan) i × (maxRegions ≤ length (now copies)) ⌝ }
+    requires { ⌜ Task (now plan) i × (length (now copies) ≡ regionsOf (now plan)) ⌝ }
     ensures { λ r. ⌜
         r ≡ bodyOf (now (plan .entry)) .compute i (map (λ g. getD (now (copies .entry)) g 0) (bodyOf (now (plan .entry)) .reads i))
         ⌝ }
@@ -73,15 +81,17 @@ pub fn item_word(plan: &[u64], code: u64, a: usize, values: &[u64]) -> u64
     }
     let subject = item_subject(code);
     let first = first_copy(plan, code, a);
+    let regions = region_count(plan);
+    let copies = &values[first..first + regions];
     if kind == SEND {
-        return values[first + subject];
+        return copies[subject];
     }
-    task_word(plan, subject, &values[first..])
+    task_word(plan, subject, copies)
 }
 
 // The word goes to the copy of each region that task i writes.
 fn write_task(plan: &[u64], i: usize, copies: &mut [u64], word: u64)
-    requires { ⌜ Task (now plan) i × (maxRegions ≤ length (now copies)) ⌝ }
+    requires { ⌜ Task (now plan) i × (length (now copies) ≡ regionsOf (now plan)) ⌝ }
     ensures { λ _. ⌜ now (copies .exit) ≡ replaced (λ g. mem g (writesOf (now (plan .entry)) i)) (λ g. word) (now (copies .entry)) ⌝ }
 {
     let count = accesses_of(plan, i);
@@ -95,7 +105,7 @@ fn write_task(plan: &[u64], i: usize, copies: &mut [u64], word: u64)
 
 // The writer of copies: the word goes to those that item a writes, on its rank.
 fn write_copies(plan: &[u64], code: u64, a: usize, copies: &mut [u64], word: u64)
-    requires { ⌜ Found (now plan) a code × (maxRegions ≤ length (now copies)) ⌝ }
+    requires { ⌜ Found (now plan) a code × (length (now copies) ≡ regionsOf (now plan)) ⌝ }
     ensures { λ _. ⌜
         now (copies .exit) ≡ replaced (λ g. mem g (regionsWritten (bodyOf (now (plan .entry))) (itemAt (bodyOf (now (plan .entry))) a))) (λ g. word) (now (copies .entry))
         ⌝ }
@@ -119,5 +129,6 @@ pub fn write_places(plan: &[u64], code: u64, a: usize, values: &mut [u64], word:
     let kind = item_kind(code);
     put_if(values, slot_of(kind, a), word, !(kind == TASK));
     let first = first_copy(plan, code, a);
-    write_copies(plan, code, a, &mut values[first..], word);
+    let regions = region_count(plan);
+    write_copies(plan, code, a, &mut values[first..first + regions], word);
 }

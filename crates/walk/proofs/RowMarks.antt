@@ -169,18 +169,22 @@ module _ (B : Body) where
 
 -- the walk from item a of n, whose rank is q
 module _ (B : Body) (n a q : ℕ) (count : n ≡ itemCount B) (rank : q ≡ rankAt B a) (l l′ l″ m m′ m″ : List ℕ) (t : Touches (touch B (itemAt B a)) l) (back : Bool) where
-  pub copies-onwards : back ≡ false → Passes n (touchOn B q) (a + 1) (n - (a + 1)) false l l′ m m′ → Passes n (touchOn B q) 0 a false l′ l″ m′ m″ → CopyMarks B n a back m m″
-  copies-onwards e P Q =
+  pub copies-onwards : a < n → back ≡ false → Passes n (touchOn B q) (a + 1) (n - (a + 1)) false l l′ m m′ → Passes n (touchOn B q) 0 a false l′ l″ m′ m″ → CopyMarks B n a back m m″
+  copies-onwards la e P Q =
       record {
         room = Q .room ∙ P .room;
         each = λ b h ne. rw e (marks-onwards B a l t l′ l″ m m′ m″ b (omega arith) ne (rw (count, rank) at P) (rw (count, rank) at Q));
+        own = Q .others a (λ u v. omega arith) ∙ P .others a (λ u v. omega arith);
+        behind = λ b h. Q .others b (λ u v. omega arith) ∙ P .others b (λ u v. omega arith);
       }
 
-  pub copies-back : back ≡ true → Passes n (touchOn B q) 0 a true l l′ m m′ → Passes n (touchOn B q) (a + 1) (n - (a + 1)) true l′ l″ m′ m″ → CopyMarks B n a back m m″
-  copies-back e P Q =
+  pub copies-back : a < n → back ≡ true → Passes n (touchOn B q) 0 a true l l′ m m′ → Passes n (touchOn B q) (a + 1) (n - (a + 1)) true l′ l″ m′ m″ → CopyMarks B n a back m m″
+  copies-back la e P Q =
       record {
         room = Q .room ∙ P .room;
         each = λ b h ne. rw e (marks-back B a l t l′ l″ m m′ m″ b (omega arith) ne (rw (count, rank) at P) (rw (count, rank) at Q));
+        own = Q .others a (λ u v. omega arith) ∙ P .others a (λ u v. omega arith);
+        behind = λ b h. Q .others b (λ u v. omega arith) ∙ P .others b (λ u v. omega arith);
       }
 
 -- an item of kind k at a has its partner at b
@@ -275,6 +279,9 @@ module _ (w items : List ℕ) (n : ℕ) (G : Graph w items n) (a : ℕ) (below :
       record {
         room = length-set (set m′ a 1) p 1 ∙ (length-set m′ a 1 ∙ long);
         each = λ b h. seen b ∙ elim (ℕ-discrete b a) [ yes q ↦ own b q | no q ↦ other b h q ];
+        behind = λ b h r.
+            seen b
+            ∙ rw (ne-eqb b p (λ q. omega (arith, row-partner p s)), ne-eqb b a (λ q. omega arith), M .behind b h, z) (getD-replicate {A = ℕ} maxItems b 0 0 r);
       }
     where
       B : Body

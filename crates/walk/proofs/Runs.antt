@@ -11,12 +11,12 @@ use borrow.Author.Tests.{eq-eqb, ne-eqb, ltb-true, ltb-false, lt-leb}
 use lib.Dec.{eqb, ltb, leb}
 use lib.ListN.{length, getD, set}
 use Rattle.finite.specs.Below.{anyBelow}
-use Rattle.finite.proofs.Tests.{false-of, not-both, and-true as all-true}
+use Rattle.finite.proofs.Tests.{false-of, not-both, or-parts, and-true as all-true}
 use Rattle.finite.proofs.Below.{any-none, any-next, any-ext, any-at, any-from, any-never}
 use Rattle.finite.proofs.Update.{set-at, length-set-if}
 use Rattle.edges.specs.Tests.{written}
 use Rattle.plan.specs.Limits.{maxRegions}
-use Rattle.walk.specs.Rows.{Places, Shut, clash, clashLeft, Meets, passed, hitAt, Passes, itemPassed}
+use Rattle.walk.specs.Rows.{Places, anyOpen, Shut, clash, clashLeft, Meets, passed, hitAt, Passes, itemPassed}
 
 -- the first number, or one above it
 any-first : (p : ℕ → Bool) (n : ℕ) → anyBelow (suc n) p ≡ (p 0 || anyBelow n (λ i. p (suc i)))
@@ -278,9 +278,14 @@ pub goes-on : (k count : ℕ) (left : Bool) → (ltb k count && left) ≡ true �
 goes-on k count left h = ltb-true k count (all-true (ltb k count) left h .0)
 
 -- no place of the list is open
-pub shut-all : (l : List ℕ) → anyBelow maxRegions (λ g. not (eqb (getD l g 0) 0)) ≡ false → Shut l
+pub shut-all : (l : List ℕ) → anyOpen l ≡ false → Shut l
+unfolding anyOpen
 shut-all l e g h =
     elim (ℕ-discrete (getD l g 0) 0) [
       | yes z ↦ z
       | no z ↦ absurd (not-both (any-at (λ g. not (eqb (getD l g 0) 0)) maxRegions g h (rw (ne-eqb (getD l g 0) 0 z))) e)
     ]
+
+-- after an item is passed, where no place may be open
+pub shut-after : (l : List ℕ) (hit left : Bool) → left ≡ (not hit || anyOpen l) → left ≡ false → Shut l
+shut-after l hit left h e = shut-all l (or-parts (not hit) (anyOpen l) (sym h ∙ e) .1)

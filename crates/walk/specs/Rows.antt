@@ -3,7 +3,7 @@
 -- functions; `proofs/` shows that the marks are the edges.
 use Prim.Native.Nat.{ℕ, _+_, _-_, _≤_, _<_}
 use mathlib.Core.Path.{_≡_}
-use mathlib.Core.Bool.{Bool, cond}
+use mathlib.Core.Bool.{Bool, cond, not}
 use mathlib.Core.List.{List}
 use lib.Dec.{eqb, leb}
 use lib.ListN.{length, getD}
@@ -17,6 +17,10 @@ use Rattle.plan.specs.Sizes.{maxItems}
 pub record Places (l : List ℕ) : Type 0 where
   pub size : length l ≡ maxRegions
   pub most : (g : ℕ) → getD l g 0 ≤ 2
+
+-- whether a place is open
+unfoldable pub anyOpen : List ℕ → Bool
+anyOpen l = anyBelow maxRegions (λ g. not (eqb (getD l g 0) 0))
 
 -- no place is open
 abbrev pub Shut : List ℕ → Type 0
@@ -64,16 +68,19 @@ module _ (n : ℕ) (T : ℕ → ℕ → ℕ) (lo count : ℕ) (back : Bool) wher
 abbrev pub itemPassed : ℕ → ℕ → ℕ → Bool → ℕ
 itemPassed lo count k back = cond back (lo + count - (k + 1)) (lo + k)
 
--- the marks of the items with an edge by a copy from item a, or if `back` to it
+-- the marks of the items with an edge by a copy from item a, or if `back` to it; no other changes
 module _ (B : Body) (n a : ℕ) (back : Bool) where
   pub record CopyMarks (marks marks′ : List ℕ) : Type 0 where
     pub room : length marks′ ≡ length marks
     pub each : (b : ℕ) → b < n → (b ≡ a → ⊥) → getD marks′ b 0 ≡ cond (cond back (copyEdge B b a) (copyEdge B a b)) 1 (getD marks b 0)
+    pub own : getD marks′ a 0 ≡ getD marks a 0
+    pub behind : (b : ℕ) → n ≤ b → getD marks′ b 0 ≡ getD marks b 0
 
-  -- 1 for each of the n items with an edge, else 0
+  -- 1 for each of the n items with an edge, 0 for the others and behind them
   pub record Marks (marks : List ℕ) : Type 0 where
     pub room : length marks ≡ maxItems
     pub each : (b : ℕ) → b < n → getD marks b 0 ≡ cond (cond back (edgeTest B b a) (edgeTest B a b)) 1 0
+    pub behind : (b : ℕ) → n ≤ b → b < maxItems → getD marks b 0 ≡ 0
 
 -- the other item of a transfer, for a task the item itself
 abbrev pub partnerOf : ℕ → ℕ → ℕ

@@ -3,17 +3,16 @@
 // that shares an open place is marked if one of the two writes it, and closes what it writes.
 ghost use Prim.Native.Nat.{_+_, _≤_, _<_};
 ghost use mathlib.Core.Path.{_≡_};
-ghost use mathlib.Core.Bool.{false, cond, not};
+ghost use mathlib.Core.Bool.{cond, not, _||_};
 ghost use lib.Dec.{eqb};
-ghost use lib.ListN.{length, getD, set, replicate};
-ghost use Rattle.finite.specs.Below.{anyBelow};
+ghost use lib.ListN.{length, set, replicate};
 ghost use Rattle.body.specs.Items.{task, itemAt};
 ghost use Rattle.edges.specs.Touch.{touch, touchOn};
 ghost use Rattle.plan.specs.Limits.{maxRegions};
 ghost use Rattle.plan.specs.Sizes.{maxItems};
 ghost use Rattle.plan.specs.Layout.{writes, bodyOf};
 ghost use Rattle.graph.specs.Table.{Graph, Task};
-ghost use Rattle.walk.specs.Rows.{Places, Shut, Touches, Meets, Passes, itemPassed, CopyMarks, Marks, partnerOf};
+ghost use Rattle.walk.specs.Rows.{Places, anyOpen, Touches, Meets, Passes, itemPassed, CopyMarks, Marks, partnerOf};
 use plan::code::RECEIVE;
 use plan::code::SEND;
 use plan::code::TASK;
@@ -144,7 +143,7 @@ fn item_passed(lo: usize, count: usize, k: usize, back: bool) -> usize
 // Whether a place is open.
 fn any_open(places: &[u8]) -> bool
     requires { ⌜ length (now places) ≡ maxRegions ⌝ }
-    ensures { λ r. ⌜ r ≡ anyBelow maxRegions (λ g. not (eqb (getD (now (places .entry)) g 0) 0)) ⌝ }
+    ensures { λ r. ⌜ r ≡ anyOpen (now (places .entry)) ⌝ }
 {
     let mut found = false;
     let mut g: usize = 0;
@@ -158,7 +157,7 @@ fn any_open(places: &[u8]) -> bool
 // Whether a place may be open after an item is passed: only one with an edge closes any.
 fn may_be_open(hit: bool, places: &[u8]) -> bool
     requires { ⌜ length (now places) ≡ maxRegions ⌝ }
-    ensures { λ r. ⌜ (r ≡ false → Shut (now (places .entry))) ⌝ }
+    ensures { λ r. ⌜ r ≡ (not hit || anyOpen (now (places .entry))) ⌝ }
 {
     if !hit {
         return true;

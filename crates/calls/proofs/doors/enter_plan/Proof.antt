@@ -18,16 +18,14 @@ returns-2 : tie.Need-returns-2
 returns-2 c =
     let made = c .before .before .before .before .before in
     let a = made .before .before .before .before .before .before .args in
-    let m = made .make-table .ensures in
-    plan-unformed (now (a .plan)) (now (a .table)) (a .long) (made .before .before .before .if1 .left) _ (m .0) (made .make-table .result .count) _ (m .2)
+    plan-unformed (now (a .plan)) (now (a .table)) (a .long) (made .before .before .before .if1 .left) (made .make-table .result) _ (made .make-table .ensures)
     _ (c .before .if2 .taken) (c .no-entry2 .ensures)
 
 returns-3 : tie.Need-returns-3
 returns-3 c =
     let made = c .before .before .before .before in
     let a = made .before .before .before .before .before .before .args in
-    let m = made .make-table .ensures in
-    plan-clear (now (a .plan)) (now (a .table)) (a .long) (made .before .before .before .if1 .left) _ (m .0) _ _ (m .2) (c .if2 .left) (m .1)
+    plan-clear (now (a .plan)) (now (a .table)) (a .long) (made .before .before .before .if1 .left) (made .make-table .result) _ (made .make-table .ensures) (c .if2 .left)
 
 pub enter-plan-spec : {M : Type 1} → statement M
 enter-plan-spec =

@@ -39,20 +39,20 @@ are-formed-requires c κs =
 
 returns-2 : tie.Need-returns-2
 returns-2 c =
-    let entered = c .before .before .before .before .before .before .before .before .before in
-    let a = entered .before .before .before .before .before .args in
-    state-unformed (now (a .plan)) (now (a .counts)) (now (a .table)) (a .long) _ _ (entered .enter-plan .ensures) (c .before .before .before .before .before .if1 .left)
-    _ (c .before .before .before .pass-count .ensures .0) _ (c .before .before .are-formed .ensures) _ (c .before .if2 .taken) (c .no-entry .ensures)
-
-returns-3 : tie.Need-returns-3
-returns-3 c =
     let entered = c .before .before .before .before .before .before .before .before in
     let a = entered .before .before .before .before .before .args in
     state-clear (now (a .plan)) (now (a .counts)) (now (a .table)) (a .long) _ _ (entered .enter-plan .ensures) (c .before .before .before .before .if1 .left)
-    _ (c .before .before .pass-count .ensures .0) _ (c .before .are-formed .ensures) (c .if2 .left)
+    _ (c .before .before .pass-count .ensures .0) _ (c .before .are-formed .ensures) (c .if2 .taken)
+
+returns-3 : tie.Need-returns-3
+returns-3 c =
+    let entered = c .before .before .before .before .before .before .before .before .before in
+    let a = entered .before .before .before .before .before .args in
+    state-unformed (now (a .plan)) (now (a .counts)) (now (a .table)) (a .long) _ _ (entered .enter-plan .ensures) (c .before .before .before .before .before .if1 .left)
+    _ (c .before .before .before .pass-count .ensures .0) _ (c .before .before .are-formed .ensures) _ (c .before .if2 .left) (c .no-entry .ensures)
 
 pub enter-state-spec : {M : Type 1} → statement M
 enter-state-spec =
     tie.close
     (tie.spec (λ c κs. search needs) (λ c. search needs) returns slice-aggregate-pass-count pass-count-requires are-formed-requires
-    (λ c κs. search needs) (λ c. search needs) returns-2 (λ c. search needs) returns-3)
+    (λ c. search needs) returns-2 (λ c κs. search needs) (λ c. search needs) returns-3)

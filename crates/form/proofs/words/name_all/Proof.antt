@@ -19,7 +19,7 @@ loop-holds : tie.Need-loop-holds Inv-loop μ-loop
 loop-holds c = search (needs, naming-none)
 
 returns : tie.Need-returns Inv-loop μ-loop
-returns c = naming-wide _ _ (c .before .before .before .before .loop .a) _ _ _ (c .refused .ensures) (search needs) (search needs)
+returns c = naming-wide _ _ (c .before .before .before .before .loop .a) (c .refused .result) _ (c .refused .ensures) (search needs) (search needs)
 
 returns-2 : tie.Need-returns-2 Inv-loop μ-loop
 returns-2 c =
@@ -28,7 +28,7 @@ returns-2 c =
     let word = region .before .before in
     let turn = word .before .before in
     naming-twice _ _ _ _ _ _ _ _ _ _ (turn .before .before .before .before .before .pre) (turn .loop .inv .5) (word .access-at .ensures) (region .access-region .ensures .0)
-    (turn .loop .inv .2) (since .wrapping-sub-u64 .ensures) (search needs) _ _ (c .refused2 .ensures) (search needs) (c .before .if3 .taken)
+    (turn .loop .inv .2) (since .wrapping-sub-u64 .ensures) (search needs) (c .refused2 .result) (c .refused2 .ensures) (search needs) (c .before .if3 .taken)
 
 loop-again : tie.Need-loop-again Inv-loop μ-loop
 loop-again c =

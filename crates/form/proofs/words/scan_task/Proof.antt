@@ -1,4 +1,4 @@
-use Rattle.form.proofs.Scanning.{ready-of, few-of, task-head, task-fresh, task-rest, task-reads}
+use Rattle.form.proofs.Scanning.{ready-of, few-of, task-head, task-fresh, task-rest, task-reads, task-fine}
 use borrow.Author.Needs.{needs}
 use Rattle.form.proofs.words.scan_task.Statement.{statement}
 use Rattle.form.proofs.words.scan_task.Tie as tie
@@ -24,8 +24,11 @@ reads-ok-requires c κs = search (needs, few-of)
 returns-4 : tie.Need-returns-4
 returns-4 c = search (needs, task-reads)
 
+returns-5 : tie.Need-returns-5
+returns-5 c = search (needs, task-fine)
+
 pub scan-task-spec : {M : Type 1} → statement M
 scan-task-spec =
     tie.close
     (tie.spec (λ c κs. search needs) (λ c κs. search needs) returns name-all-requires (λ c κs. search needs) (λ c. search needs) returns-2
-    rest-ok-requires (λ c κs. search needs) (λ c. search needs) returns-3 reads-ok-requires (λ c. search needs) returns-4)
+    rest-ok-requires (λ c κs. search needs) (λ c. search needs) returns-3 reads-ok-requires (λ c κs. search needs) (λ c. search needs) returns-4 (λ c. search needs) returns-5)

@@ -17,7 +17,7 @@ loop-holds : tie.Need-loop-holds Inv-loop μ-loop
 loop-holds c = search (needs, scanning-none)
 
 returns : tie.Need-returns Inv-loop μ-loop
-returns c = scanning-not _ _ _ _ _ _ _ _ (c .before .before .before .before .before .scan-task .ensures) (c .before .if1 .taken) (search needs) (c .refused .ensures)
+returns c = scanning-not _ _ _ _ (c .refused .result) _ _ (c .before .before .before .before .before .scan-task .ensures) (c .before .if1 .taken) (search needs) (c .refused .ensures)
 
 add-changes : tie.Need-add-changes Inv-loop μ-loop
 add-changes c = omega (arith, task-few _ _ _ _ _ (c .before .before .before .before .before .scan-task .ensures) (c .before .if1 .left))

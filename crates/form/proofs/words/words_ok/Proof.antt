@@ -1,4 +1,4 @@
-use Rattle.form.proofs.Agrees.{open-of, regions-most, tasks-most, tasks-keep, answer-counts, answer-tasks, answer-behind}
+use Rattle.form.proofs.Agrees.{open-of, regions-most, tasks-most, tasks-keep, answer-counts, answer-tasks, answer-behind, answer-fine}
 use borrow.Author.Needs.{needs}
 use Rattle.form.proofs.words.words_ok.Statement.{statement}
 use Rattle.form.proofs.words.words_ok.Tie as tie
@@ -21,8 +21,11 @@ behind-tasks-requires c κs = search (needs, tasks-most)
 returns-3 : tie.Need-returns-3
 returns-3 c = search (needs, answer-behind)
 
+returns-4 : tie.Need-returns-4
+returns-4 c = search (needs, answer-fine)
+
 pub words-ok-spec : {M : Type 1} → statement M
 words-ok-spec =
     tie.close
     (tie.spec (λ c κs. search needs) (λ c κs. search needs) returns (λ c. search needs) scan-tasks-requires (λ c κs. search needs) returns-2
-    (λ c. search needs) behind-regions-requires behind-tasks-requires returns-3)
+    (λ c. search needs) behind-regions-requires behind-tasks-requires (λ c κs. search needs) returns-3 returns-4)

@@ -20,7 +20,7 @@ loop-again : tie.Need-loop-again Inv-loop μ-loop
 loop-again c = none-more _ _ _ _ _ (c .before .before .before .loop .inv) (c .before .is-ready .ensures) (c .if1 .left)
 
 returns-2 : tie.Need-returns-2 Inv-loop μ-loop
-returns-2 c = first-none _ _ _ _ _ (c .loop-test .left) (c .before .loop .inv)
+returns-2 c = first-none _ _ _ _ _ (search needs) (c .loop-test .left) (c .before .loop .inv)
 
 pub first-ready-spec : {M : Type 1} → statement M
 first-ready-spec =

@@ -11,7 +11,7 @@ use Rattle.finite.proofs.Collect.{map-gather}
 use Rattle.kernels.specs.Kernels.{kernelWord}
 use Rattle.plan.specs.Limits.{maxAccesses}
 use Rattle.plan.specs.Layout.{kernelOf, constantOf, accessesOf, accessRegion, reads, regionAt, isRead}
-use Rattle.graph.proofs.Accesses.{Passed}
+use Rattle.graph.proofs.Accesses.{Passed, region-within}
 use Rattle.values.proofs.places.task_word.Statement.{statement}
 use Rattle.values.proofs.places.task_word.Tie as tie
 
@@ -25,6 +25,13 @@ abbrev μ-loop : tie.MeasureT-loop
 
 loop-holds : tie.Need-loop-holds Inv-loop μ-loop
 loop-holds c = search (needs, gather-none)
+
+shared-slice-read-reads : tie.Need-shared-slice-read-reads Inv-loop μ-loop
+shared-slice-read-reads c =
+    let loop = c .before .before .before .before in
+    let s = loop .before .before .before .before in
+    let near = region-within _ _ (loop .loop .k) _ (s .pre .0) (search needs) (c .before .before .access-at .ensures) in
+    omega (arith, c .before .access-region .ensures .0, near, s .pre .1)
 
 loop-again : tie.Need-loop-again Inv-loop μ-loop
 loop-again c =
@@ -60,7 +67,7 @@ returns c =
 pub task-word-spec : {M : Type 1} → statement M
 task-word-spec =
     tie.close
-    (tie.spec Inv-loop μ-loop (λ c κs. search needs) loop-holds (λ c κs. search needs) (λ c κs. search needs) (λ c. search needs) (λ c. search needs)
+    (tie.spec Inv-loop μ-loop (λ c κs. search needs) loop-holds (λ c κs. search needs) (λ c κs. search needs) (λ c. search needs) shared-slice-read-reads
     (λ c. search needs) (λ c. search needs) (λ c κs. search needs) (λ c κs. search needs) (λ c κs. search needs) (λ c. search needs)
     (λ c. search needs) (λ c. search needs) loop-again (λ c κs. search needs) (λ c κs. search needs) (λ c. search needs) slice-aggregate-kernel-word
     (λ c κs. search needs) returns)

@@ -1,4 +1,4 @@
-use Prim.Native.Nat.{ℕ}
+use Prim.Native.Nat.{ℕ, _+_}
 use mathlib.Core.Path.{_∙_, ap}
 use native.Mathlib.Omega.{arith}
 use borrow.Author.Needs.{needs}
@@ -13,16 +13,19 @@ slot-of-requires c κs = let F = c .before .before .before .before .pre .0 in (o
 
 returns : tie.Need-returns
 returns c =
-    let s = c .before .before .before .before .before .before .before .before .before .before .before .before .before in
-    let f = c .before .before .before .before .first-copy in
-    let k = c .before .before .before .before .before .before .before .before .before .before .item-kind .ensures in
-    let put = c .before .before .before .before .before .before .before .put-if in
+    let put = c .before .before .before .before .before .before .before .before in
+    let kind = put .before .before .before in
+    let s = kind .before .before .before in
+    let k = kind .item-kind .ensures in
+    let f = c .before .before .before .before .before .first-copy in
+    let r = c .before .before .before .before .region-count in
     let w = c .before .before .write-copies in
-    places-written _ _ _ (s .pre .0) (s .args .word) (s .args .values .now) (f .result) _ (put .last .0) (w .last .1 .1 .1 .0) (search needs) (f .ensures .0) (f .ensures .1)
-    (c .before .before .before .before .before .before .before .before .slot-of .ensures .0 ∙ ap (λ (x : ℕ). slotOf x (s .args .a)) k) (rw k at (put .ensures)) (w .ensures)
+    places-written _ _ _ (s .pre .0) (s .args .word) (s .args .values .now) (f .result) (f .result + r .result) _ (put .put-if .last .0) (w .last .1 .1 .1 .0)
+    (search needs) (f .ensures .0) (f .ensures .1) (ap (λ (x : ℕ). f .result + x) (r .ensures .0))
+    (put .before .slot-of .ensures .0 ∙ ap (λ (x : ℕ). slotOf x (s .args .a)) k) (rw k at (put .put-if .ensures)) (w .ensures)
 
 pub write-places-spec : {M : Type 1} → statement M
 write-places-spec =
     tie.close
-    (tie.spec (λ c κs. search needs) slot-of-requires (λ c κs. search needs) (λ c κs. search needs) (λ c. search needs) (λ c. search needs)
-    (λ c. search needs) (λ c. search needs) (λ c κs. search needs) (λ c. search needs) returns)
+    (tie.spec (λ c κs. search needs) slot-of-requires (λ c κs. search needs) (λ c κs. search needs) (λ c κs. search needs) (λ c. search needs) (λ c. search needs)
+    (λ c. search needs) (λ c. search needs) (λ c. search needs) (λ c κs. search needs) (λ c. search needs) returns)

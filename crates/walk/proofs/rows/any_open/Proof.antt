@@ -7,6 +7,7 @@ use lib.ListN.{getD}
 use Rattle.finite.specs.Below.{anyBelow}
 use Rattle.finite.proofs.Below.{any-none, any-more, any-done}
 use Rattle.plan.specs.Limits.{maxRegions}
+use Rattle.walk.specs.Rows.{anyOpen}
 use Rattle.walk.proofs.rows.any_open.Statement.{statement}
 use Rattle.walk.proofs.rows.any_open.Tie as tie
 
@@ -23,6 +24,7 @@ loop-again : tie.Need-loop-again Inv-loop μ-loop
 loop-again c = search (needs, any-more)
 
 returns : tie.Need-returns Inv-loop μ-loop
+unfolding anyOpen
 returns c = search (needs, any-done)
 
 pub any-open-spec : {M : Type 1} → statement M

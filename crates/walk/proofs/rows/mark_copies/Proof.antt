@@ -25,7 +25,7 @@ returns c =
     let coded = noted .before .before in
     let pre = coded .before .before .before .before .before .pre in
     copies-back _ _ _ _ (pre .0 .count) (coded .item-rank .ensures ∙ code-rank _ _ _ (pre .0) _ (pre .1) _ (coded .before .wide-16 .ensures .0))
-    _ _ _ _ _ _ (noted .note-item .ensures) _ (branch .if1 .taken) (first .mark-run .ensures) (second .mark-run2 .ensures)
+    _ _ _ _ _ _ (noted .note-item .ensures) _ (pre .1) (branch .if1 .taken) (first .mark-run .ensures) (second .mark-run2 .ensures)
 
 mark-run-requires-3 : tie.Need-mark-run-requires-3
 mark-run-requires-3 c κs = (search needs, search needs, touches-places _ _ _ (c .before .before .before .before .note-item .ensures), search needs)
@@ -47,7 +47,7 @@ returns-2 c =
     let coded = noted .before .before in
     let pre = coded .before .before .before .before .before .pre in
     copies-onwards _ _ _ _ (pre .0 .count) (coded .item-rank .ensures ∙ code-rank _ _ _ (pre .0) _ (pre .1) _ (coded .before .wide-16 .ensures .0))
-    _ _ _ _ _ _ (noted .note-item .ensures) _ (branch .if1 .left) (first .mark-run3 .ensures) (second .mark-run4 .ensures)
+    _ _ _ _ _ _ (noted .note-item .ensures) _ (pre .1) (branch .if1 .left) (first .mark-run3 .ensures) (second .mark-run4 .ensures)
 
 pub mark-copies-spec : {M : Type 1} → statement M
 mark-copies-spec =

@@ -9,7 +9,7 @@ use Rattle.edges.proofs.Touches.{touch-most}
 use Rattle.plan.specs.Layout.{bodyOf}
 use Rattle.walk.specs.Rows.{Places, Shut, Passes}
 use Rattle.walk.proofs.Meeting.{meets-places}
-use Rattle.walk.proofs.Runs.{firstOf, passed-below, run-none, run-more, run-ended, goes-on, shut-all}
+use Rattle.walk.proofs.Runs.{firstOf, passed-below, run-none, run-more, run-ended, goes-on, shut-all, shut-after}
 use Rattle.walk.proofs.rows.mark_run.Statement.{statement}
 use Rattle.walk.proofs.rows.mark_run.Tie as tie
 
@@ -58,7 +58,7 @@ loop-again c =
     let pre = passed .before .before .before .before .before .before .before .before .pre in (
       omega (arith, on (passed .before)),
       meets-places _ _ _ _ (turn .inv .1) (met .meet-item .ensures),
-      c .may-be-open .ensures,
+      shut-after _ (met .meet-item .result) _ (c .may-be-open .ensures),
       run-more _ _ _ _ _ _ _ _ _ _ _ _ _ _ (on (passed .before)) (omega arith)
           (turn .inv .3) (passed .item-passed .ensures) (met .meet-item .ensures) (marked .put-if .ensures),
     )
