@@ -210,3 +210,7 @@ module _ (plan counts values : List ℕ) (opens : openOf plan counts values .ref
         only = λ k t c. taken-only plan s k l t (steps-taken plan mostSteps s) (over-after k c) (over-after l steps-complete);
         results = steps-results;
       }
+
+  pub steps-calls : steps-run .calls ≡ l
+  unfolding steps-run
+  steps-calls = refl

@@ -14,7 +14,7 @@ use Rattle.steps.specs.Answers.{openOf}
 use Rattle.steps.proofs.Accepting.{long-slices, open-accepted}
 use Rattle.report.specs.Report.{openState, stepsFrom, mostSteps, readingLines, linesOf, reportBytes}
 use Rattle.report.specs.Laws.{Lined, Laws}
-use Rattle.report.proofs.Steps.{steps-run}
+use Rattle.report.proofs.Steps.{steps-run, steps-calls}
 use Rattle.report.proofs.Sizes.{refused-most}
 use Rattle.report.proofs.Room.{whole, edges-all, plan-room}
 
@@ -34,7 +34,7 @@ module _ (w : List ℕ) (size : length w ≡ planWords) (form : inForm w ≡ tru
       )
 
   lined : Lined w (openState w) (stepsFrom w mostSteps (openState w))
-  lined = record { edges = edges-all w size form; run = steps-run w counts values opens; steps = refl }
+  lined = record { edges = edges-all w size form; run = steps-run w counts values opens; steps = steps-calls w counts values opens }
 
 room : (text : List ℕ) → length (linesOf text) ≤ reportBytes
 unfolding linesOf

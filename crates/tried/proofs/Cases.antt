@@ -25,7 +25,7 @@ two-ranks-ok : wordsOk (exampleWords 2) ≡ true
 unfolding wordsOk allBelow countBelow suits
 two-ranks-ok = refl
 
-two-ranks-list : edgeList (bodyOf (exampleWords 2)) ≡ tenEdges
+pub two-ranks-list : edgeList (bodyOf (exampleWords 2)) ≡ tenEdges
 unfolding itemList flatMap range gather transfersOf transferred wanted anyBelow source orElse lastBefore mem itemAt touch touchOn written between crossed paired copyEdge edgeTest edgesFrom edgeList
 two-ranks-list = refl
 

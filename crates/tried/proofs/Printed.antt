@@ -11,9 +11,6 @@ use Rattle.finite.specs.Lists.{mem, gather, range, collect}
 use Rattle.text.specs.Ascii.{ascii}
 use Rattle.body.specs.Transfers.{lastBefore, source, wanted, transferred, transfersOf}
 use Rattle.body.specs.Items.{itemList, itemAt}
-use Rattle.edges.specs.Touch.{touch, touchOn}
-use Rattle.edges.specs.Tests.{written, writtenBetween as between, crossed, paired, copyEdge, edgeTest}
-use Rattle.edges.specs.EdgeList.{edgesFrom, edgeList}
 use Rattle.plan.specs.Layout.{bodyOf}
 use Rattle.graph.specs.Answers.{planBody}
 use Rattle.steps.specs.Answers.{resultOf}
@@ -24,6 +21,7 @@ use Rattle.report.specs.Laws.{Lined}
 use Rattle.report.proofs.Theorems.{laws}
 use Rattle.tried.specs.Table.{example, exampleWords}
 use Rattle.tried.proofs.Read.{example-read}
+use Rattle.tried.proofs.Cases.{two-ranks-list}
 use Rattle.tried.proofs.Drawn.{example-items, final-two}
 
 abbrev w : List ℕ
@@ -39,8 +37,8 @@ graph-lines : graphLines (bodyOf w) ≡
     ascii "item 0 task 0\nitem 1 send 0\nitem 2 receive 1\nitem 3 task 1\n"
     ++ (ascii "edge 0 0 1\nedge 0 1 0\nedge 1 0 1\nedge 1 1 1\nedge 1 2 0\nedge 2 1 1\nedge 2 2 1\nedge 2 3 0\n"
     ++ ascii "edge 3 2 1\nedge 3 3 1\n")
-unfolding graphLines collect itemLine edgeLine field kindField itemList flatMap range gather transfersOf transferred wanted anyBelow source orElse lastBefore mem itemAt touch touchOn written between crossed paired copyEdge edgeTest edgesFrom edgeList
-graph-lines = refl
+unfolding graphLines collect itemLine edgeLine field kindField itemList itemAt flatMap range gather transfersOf transferred wanted anyBelow source orElse lastBefore mem
+graph-lines = rw two-ranks-list
 
 -- of a plan with two regions: its steps and the results after them
 two-values : (plan : List ℕ) (s : Lent) (l : List Call) (n v u : ℕ) → planBody plan .regions ≡ 2 → accepted plan isStep s l ≡ n →

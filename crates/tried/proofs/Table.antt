@@ -169,7 +169,8 @@ module _ (D : Demands) where
         let m = steps 2 example example-read plan s F s .started 0 h in
         let t : Lent = lentBy (call plan s (start 0)) in (
           record { refusal = h; word = order 2 example example-read plan s F (start 0 ∷ []) .starts [] [] 0 refl h .2 ∙ word-0 },
-          steps 2 example example-read plan s F t .numbers .start-15 0 .1 (ready 2 example example-read plan s F (start 0 ∷ []), omega (arith, four), one-started (call plan s (start 0) .counts) (m .counted)),
+          steps 2 example example-read plan s F t .numbers .start-15 0 .1
+          (ready 2 example example-read plan s F (start 0 ∷ []), omega (arith, four), one-started (call plan s (start 0) .counts) (m .counted)),
         )
 
   -- no pass
@@ -190,7 +191,8 @@ module _ (D : Demands) where
         let done : getD (play plan s l .counts) (firstFinished + 0) 0 ≡ planBody plan .passes =
         order 0 noPass no-pass-read plan s F l .counted 0 e .1 ∙ (ended l 0 e ∙ sym (passes-are 0 noPass no-pass-read plan s F)) in
         let r = finals 0 noPass no-pass-read plan s F l (ended l) 5 0 (final-none .0) (final-none .1) in
-        (r .0, r .1, all-steps 0 noPass no-pass-read plan s F l (ended l), steps 0 noPass no-pass-read plan s F (play plan s l) .numbers .start-14 0 .1 (ready 0 noPass no-pass-read plan s F l, four, done))
+        let none = steps 0 noPass no-pass-read plan s F (play plan s l) .numbers .start-14 0 .1 (ready 0 noPass no-pass-read plan s F l, four, done) in
+        (r .0, r .1, all-steps 0 noPass no-pass-read plan s F l (ended l), none)
 
   from-demands : Table
   from-demands =
