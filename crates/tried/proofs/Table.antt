@@ -170,7 +170,7 @@ module _ (D : Demands) where
         let t : Lent = lentBy (call plan s (start 0)) in (
           record { refusal = h; word = order 2 example example-read plan s F (start 0 ∷ []) .starts [] [] 0 refl h .2 ∙ word-0 },
           steps 2 example example-read plan s F t .numbers .start-15 0 .1
-          (ready 2 example example-read plan s F (start 0 ∷ []), omega (arith, four), one-started (call plan s (start 0) .counts) (m .counted)),
+              (ready 2 example example-read plan s F (start 0 ∷ []), omega (arith, four), one-started (call plan s (start 0) .counts) (m .counted)),
         )
 
   -- no pass
