@@ -175,31 +175,34 @@ static inline taskiter_reading taskiter_read_lent(const uint8_t *text, size_t te
                                                   uint64_t *plan, size_t plan_length) {
     static const uint8_t none = 0;
     taskiter_reading refused = {11, 0};
-    return plan == NULL ? refused
-                        : taskiter_read(text == NULL && text_length == 0 ? &none : text,
-                                        text_length, plan, plan_length);
+    if (plan == NULL)
+        return refused;
+    return taskiter_read(text == NULL && text_length == 0 ? &none : text, text_length, plan,
+                         plan_length);
 }
 
 static inline taskiter_number taskiter_items_lent(const uint64_t *plan, size_t plan_length,
                                                   uint16_t *items, size_t items_length) {
     taskiter_number refused = {11, 0};
-    return plan == NULL || items == NULL ? refused
-                                         : taskiter_items(plan, plan_length, items, items_length);
+    if (plan == NULL || items == NULL)
+        return refused;
+    return taskiter_items(plan, plan_length, items, items_length);
 }
 
 static inline taskiter_number taskiter_edges_lent(const uint64_t *plan, size_t plan_length,
                                                   uint32_t *edges, size_t edges_length) {
     taskiter_number refused = {11, 0};
-    return plan == NULL || edges == NULL ? refused
-                                         : taskiter_edges(plan, plan_length, edges, edges_length);
+    if (plan == NULL || edges == NULL)
+        return refused;
+    return taskiter_edges(plan, plan_length, edges, edges_length);
 }
 
 static inline uint64_t taskiter_open_lent(const uint64_t *plan, size_t plan_length,
                                           TASKITER_COUNT_TYPE *counts, size_t counts_length,
                                           uint64_t *values, size_t values_length) {
-    return plan == NULL || counts == NULL || values == NULL
-               ? 11
-               : taskiter_open(plan, plan_length, counts, counts_length, values, values_length);
+    if (plan == NULL || counts == NULL || values == NULL)
+        return 11;
+    return taskiter_open(plan, plan_length, counts, counts_length, values, values_length);
 }
 
 static inline taskiter_answer taskiter_start_lent(const uint64_t *plan, size_t plan_length,
@@ -207,10 +210,9 @@ static inline taskiter_answer taskiter_start_lent(const uint64_t *plan, size_t p
                                                   size_t counts_length, uint64_t *values,
                                                   size_t values_length, uint64_t item) {
     taskiter_answer refused = {11, 0};
-    return plan == NULL || counts == NULL || values == NULL
-               ? refused
-               : taskiter_start(plan, plan_length, counts, counts_length, values, values_length,
-                                item);
+    if (plan == NULL || counts == NULL || values == NULL)
+        return refused;
+    return taskiter_start(plan, plan_length, counts, counts_length, values, values_length, item);
 }
 
 static inline taskiter_answer taskiter_finish_lent(const uint64_t *plan, size_t plan_length,
@@ -218,10 +220,9 @@ static inline taskiter_answer taskiter_finish_lent(const uint64_t *plan, size_t 
                                                    size_t counts_length, uint64_t *values,
                                                    size_t values_length, uint64_t item) {
     taskiter_answer refused = {11, 0};
-    return plan == NULL || counts == NULL || values == NULL
-               ? refused
-               : taskiter_finish(plan, plan_length, counts, counts_length, values, values_length,
-                                 item);
+    if (plan == NULL || counts == NULL || values == NULL)
+        return refused;
+    return taskiter_finish(plan, plan_length, counts, counts_length, values, values_length, item);
 }
 
 static inline taskiter_answer taskiter_result_lent(const uint64_t *plan, size_t plan_length,
@@ -229,10 +230,10 @@ static inline taskiter_answer taskiter_result_lent(const uint64_t *plan, size_t 
                                                    size_t counts_length, const uint64_t *values,
                                                    size_t values_length, uint64_t region) {
     taskiter_answer refused = {11, 0};
-    return plan == NULL || counts == NULL || values == NULL
-               ? refused
-               : taskiter_result(plan, plan_length, counts, counts_length, values, values_length,
-                                 region);
+    if (plan == NULL || counts == NULL || values == NULL)
+        return refused;
+    return taskiter_result(plan, plan_length, counts, counts_length, values, values_length,
+                           region);
 }
 
 static inline uint64_t taskiter_play_lent(const uint64_t *plan, size_t plan_length,
@@ -241,12 +242,12 @@ static inline uint64_t taskiter_play_lent(const uint64_t *plan, size_t plan_leng
                                           const uint64_t *calls, size_t calls_length,
                                           uint64_t *answers, size_t answers_length) {
     uint64_t none[2] = {0, 0};
-    return plan == NULL || counts == NULL || values == NULL
-               ? 11
-               : taskiter_play(plan, plan_length, counts, counts_length, values, values_length,
-                               calls == NULL && calls_length == 0 ? &none[0] : calls, calls_length,
-                               answers == NULL && answers_length == 0 ? &none[1] : answers,
-                               answers_length);
+    if (plan == NULL || counts == NULL || values == NULL)
+        return 11;
+    return taskiter_play(plan, plan_length, counts, counts_length, values, values_length,
+                         calls == NULL && calls_length == 0 ? &none[0] : calls, calls_length,
+                         answers == NULL && answers_length == 0 ? &none[1] : answers,
+                         answers_length);
 }
 
 #define taskiter_read(...) taskiter_read_lent(__VA_ARGS__)

@@ -10,7 +10,7 @@ use Rattle.text.specs.declared.RecordAt.the-variants.{Line, Unended}
 use Rattle.plan.specs.Limits.{maxAccesses, maxBytes, maxRegions, maxTasks}
 use Rattle.plan.specs.Form.{wordsOk}
 use Rattle.plan.specs.Layout.{planWords, regionsOf, tasksOf}
-use Rattle.reading.specs.Reading.{Reading, accepted, readOf, refused}
+use Rattle.reading.specs.Reading.{Reading, accepted, lineRefusal, readOf, refused}
 use Rattle.reader.specs.Answer.{answerOf}
 use Rattle.reader.specs.Machine.{Move, endOf, go, move, openCount, stop}
 use Rattle.reader.specs.declared.Answer.{Answer}
@@ -53,7 +53,7 @@ behind line (stop why) = (line, stop why)
 -- where a walk stands after what was found
 abbrev pub afterLine : Walk → RecordAt → List ℕ → List ℕ → ℕ × Move
 afterLine (Refused why line) found named words = (line, stop why)
-afterLine (Done phase line) Unended named words = (line, stop 1)
+afterLine (Done phase line) Unended named words = (line, stop (lineRefusal Unended))
 afterLine (Done phase line) (Line says next) named words = behind line (move phase named words says)
 
 -- a walk goes on while it is not refused and bytes are left

@@ -10,7 +10,7 @@ use borrow.Author.Tests.{ne-eqb, le-leb, lt-leb, leb-true}
 use lib.Dec.{eqb, ltb, leb}
 use lib.ListN.{length, take, drop, take-append-drop}
 use lib.Seq.{take-all, length-take-le, drop-append-le}
-use Rattle.finite.proofs.Tests.{and-true}
+use Rattle.finite.proofs.Tests.{and-true, not-both}
 use Rattle.body.specs.Items.{itemCount}
 use Rattle.plan.specs.Sizes.{maxItems, edgeWords, countWords, valueWords}
 use Rattle.plan.specs.Layout.{planWords}
@@ -18,7 +18,7 @@ use Rattle.graph.specs.declared.Number.{Number}
 use Rattle.graph.specs.Table.{tableOf, Graph}
 use Rattle.graph.specs.Answers.{refusalOf, longPlan, formedPlan, planBody, isItem, three, ItemsAnswer, EdgesAnswer}
 use Rattle.steps.specs.Answers.{Left, formedCounts, longSlices, callRefusal, refused, openOf, startOf, finishOf, resultOf}
-use Rattle.steps.specs.Calls.{lent, start, finish, result}
+use Rattle.steps.specs.Calls.{lent, start, finish, result, call}
 use Rattle.steps.proofs.Accepting.{refusal-none}
 use Rattle.steps.proofs.Running.{cut-again, call-cut}
 use Rattle.calls.specs.declared.Entry.{Entry}
@@ -125,13 +125,17 @@ module _ (P C W : List ℕ) where
       call-refused t x =
           sym (rw (number-apart (longSlices P C W) (formedPlan P && formedCounts P C W) t (λ z. n (B .refusal ∙ z)), ← B .refusal, ne-eqb (r .refusal) 0 n))
 
-      pub start-refused : (a : ℕ) → refused P C W (r .refusal) ≡ startOf P C W a
+      start-refused : (a : ℕ) → refused P C W (r .refusal) ≡ startOf P C W a
       unfolding startOf
       start-refused a = call-refused (isItem P a) _
 
-      pub finish-refused : (a : ℕ) → refused P C W (r .refusal) ≡ finishOf P C W a
+      finish-refused : (a : ℕ) → refused P C W (r .refusal) ≡ finishOf P C W a
       unfolding finishOf
       finish-refused a = call-refused (isItem P a) _
+
+      pub step-refused : (a : ℕ) (starts : Bool) → refused P C W (r .refusal) ≡ call P (lent C W) (cond starts (start a) (finish a))
+      step-refused a true = start-refused a
+      step-refused a false = finish-refused a
 
       pub result-refused : (g : ℕ) → refused P C W (r .refusal) ≡ resultOf P C W g
       unfolding resultOf
@@ -147,11 +151,21 @@ module _ (P C W : List ℕ) where
           let s = refusal-none (longSlices P C W) (formedPlan P && formedCounts P C []) true (sym (B .refusal) ∙ z) .0 in
           leb-true valueWords (length W) (and-true (leb countWords (length C)) (leb valueWords (length W)) (and-true (longPlan P) (leb countWords (length C) && leb valueWords (length W)) s .1) .1)
 
-      pub start-passed : (a : ℕ) (x : Left) → x ≡ startOf (take planWords P) C W a → x ≡ startOf P C W a
+      start-passed : (a : ℕ) (x : Left) → x ≡ startOf (take planWords P) C W a → x ≡ startOf P C W a
       start-passed a x e = e ∙ call-cut P state-room (lent C W) (start a)
 
-      pub finish-passed : (a : ℕ) (x : Left) → x ≡ finishOf (take planWords P) C W a → x ≡ finishOf P C W a
+      finish-passed : (a : ℕ) (x : Left) → x ≡ finishOf (take planWords P) C W a → x ≡ finishOf P C W a
       finish-passed a x e = e ∙ call-cut P state-room (lent C W) (finish a)
+
+      pub step-started : (a : ℕ) (starts : Bool) → starts ≡ true → (x : Left) → x ≡ startOf (take planWords P) C W a →
+          x ≡ call P (lent C W) (cond starts (start a) (finish a))
+      step-started a true t x e = start-passed a x e
+      step-started a false t x e = absurd (not-both t refl)
+
+      pub step-finished : (a : ℕ) (starts : Bool) → starts ≡ false → (x : Left) → x ≡ finishOf (take planWords P) C W a →
+          x ≡ call P (lent C W) (cond starts (start a) (finish a))
+      step-finished a true t x e = absurd (not-both refl t)
+      step-finished a false t x e = finish-passed a x e
 
       pub result-passed : (g : ℕ) (x : Left) → x ≡ resultOf (take planWords P) C W g → x ≡ resultOf P C W g
       result-passed g x e = e ∙ call-cut P state-room (lent C W) (result g)

@@ -2,10 +2,11 @@
 // of these, and the graph besides (include/taskiter.h). A call looks at the plan and the state that
 // it is lent, and keeps nothing between calls.
 ghost use mathlib.Core.Path.{_≡_};
+ghost use mathlib.Core.Bool.{cond};
 ghost use Rattle.reader.specs.Answer.{Reads};
 ghost use Rattle.graph.specs.Answers.{ItemsAnswer, EdgesAnswer};
 ghost use Rattle.steps.specs.Answers.{openOf, startOf, finishOf, resultOf};
-ghost use Rattle.steps.specs.Calls.{lent, call};
+ghost use Rattle.steps.specs.Calls.{start, finish, lent, call};
 ghost use Rattle.calls.specs.Told.{told, toldOpening};
 ghost use Rattle.taskiter.specs.Played.{callOf, Played};
 ghost use Rattle.taskiter.specs.Shown.{Shown};
@@ -100,6 +101,31 @@ pub extern "C" fn taskiter_open(plan: &[u64], counts: &mut [Count], values: &mut
     0
 }
 
+// A step through the door by plan and counts: the start of an item, or its finish.
+fn take_step(
+    plan: &[u64],
+    counts: &mut [Count],
+    values: &mut [u64],
+    item: u64,
+    starts: bool,
+) -> Answer
+    ensures { λ r. ⌜
+        told r (now (counts .exit)) (now (values .exit))
+        ≡ call (now (plan .entry)) (lent (now (counts .entry)) (now (values .entry))) (cond starts (start item) (finish item))
+        ⌝ }
+{
+    let mut table = [0u16; MAX_ITEMS];
+    let entry = enter_state(plan, counts, VALUES <= values.len(), &mut table);
+    if entry.refusal != 0 {
+        return no_word(entry.refusal);
+    }
+    let words = &plan[..PLAN_WORDS];
+    if starts {
+        return start_clear(words, &table, entry.items, counts, values, item);
+    }
+    finish_clear(words, &table, entry.items, counts, values, item)
+}
+
 // Starts the next pass of an item: it reads and computes its word, which is answered and held.
 #[no_mangle]
 pub extern "C" fn taskiter_start(
@@ -115,19 +141,7 @@ pub extern "C" fn taskiter_start(
     if is_short(plan.len(), counts.len(), values.len()) {
         return no_word(11);
     }
-    let mut table = [0u16; MAX_ITEMS];
-    let entry = enter_state(plan, counts, VALUES <= values.len(), &mut table);
-    if entry.refusal != 0 {
-        return no_word(entry.refusal);
-    }
-    start_clear(
-        &plan[..PLAN_WORDS],
-        &table,
-        entry.items,
-        counts,
-        values,
-        item,
-    )
+    take_step(plan, counts, values, item, true)
 }
 
 // Finishes the pass of an item that runs: the held word goes to the places that the item writes,
@@ -146,19 +160,7 @@ pub extern "C" fn taskiter_finish(
     if is_short(plan.len(), counts.len(), values.len()) {
         return no_word(11);
     }
-    let mut table = [0u16; MAX_ITEMS];
-    let entry = enter_state(plan, counts, VALUES <= values.len(), &mut table);
-    if entry.refusal != 0 {
-        return no_word(entry.refusal);
-    }
-    finish_clear(
-        &plan[..PLAN_WORDS],
-        &table,
-        entry.items,
-        counts,
-        values,
-        item,
-    )
+    take_step(plan, counts, values, item, false)
 }
 
 // The result of a region once the loop is complete.
