@@ -10,4 +10,3 @@ pub mod Demands
 pub mod Exported
 pub mod Ending
 pub mod Showing
-pub mod TextRuns

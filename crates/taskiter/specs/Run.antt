@@ -1,17 +1,13 @@
 -- What running a plan to its end answers and leaves (paper 01, "The run program").
-use Prim.Native.Nat.{ℕ, _*_, _≤_, _<_}
+use Prim.Native.Nat.{ℕ, _*_, _<_}
 use mathlib.Core.Path.{_≡_}
-use mathlib.Core.List.{List, _++_}
+use mathlib.Core.List.{List}
 use lib.ListN.{length}
 use Rattle.body.specs.Loop.{loopFinal}
 use Rattle.body.specs.Items.{itemCount}
-use Rattle.plan.specs.Layout.{bodyOf}
-use Rattle.reading.specs.Plan.{Plan}
-use Rattle.reading.specs.Reading.{readOf, accepted as readTo}
-use Rattle.reading.specs.Laws.{Says, Holds}
 use Rattle.graph.specs.declared.Number.{Number}
 use Rattle.graph.specs.Answers.{planBody}
-use Rattle.steps.specs.State.{countWords, valueWords, stateOf}
+use Rattle.steps.specs.State.{stateOf}
 use Rattle.steps.specs.Answers.{openOf, resultOf}
 use Rattle.steps.specs.Calls.{Call, isStep, Lent, lent, lentBy, play, accepted}
 use Rattle.steps.specs.Running.{Taken}
@@ -41,16 +37,3 @@ pub record Ran (plan counts values : List ℕ) (r : Number) (counts′ values′
   pub refused : (r .refusal ≡ 0 → ⊥) → (r .number ≡ 0) × (counts′ ≡ counts) × (values′ ≡ values)
   -- else run from the opening; the answer is the number of steps
   pub ran : r .refusal ≡ 0 → Run plan (lentBy (openOf plan counts values)) (lent counts′ values′) (r .number)
-
--- what a run of an accepted text answers, its words w in the lent plan: so what the run program shows as steps and values
-pub record TextRun (text w plan : List ℕ) (r : Number) (counts′ values′ : List ℕ) : Type 0 where
-  pub says : (P : Plan) × Says text P × Holds w P
-  pub accepted : r .refusal ≡ 0
-  pub total : r .number ≡ 2 * (bodyOf w .passes * itemCount (bodyOf w))
-  pub results : (g : ℕ) → g < bodyOf w .regions →
-      (resultOf plan counts′ values′ g .refusal ≡ 0) × (resultOf plan counts′ values′ g .word ≡ loopFinal (bodyOf w) g)
-
--- every accepted text is run so, whatever the lent state holds (proved in proofs/TextRuns.antt)
-abbrev pub EveryText : Type 0
-EveryText = (text w behind counts values : List ℕ) (r : Number) (counts′ values′ : List ℕ) → readOf text ≡ readTo w → countWords ≤ length counts → valueWords ≤ length values →
-    Ran (w ++ behind) counts values r counts′ values′ → TextRun text w (w ++ behind) r counts′ values′
