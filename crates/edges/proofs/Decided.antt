@@ -254,13 +254,6 @@ module _ (B : Body) (F : Fits B) where
           | no ne ↦ dependence-test a b d ne (edge-distance-is (system B) a b d (rule e)) e
         ]
 
-pub edge-decided : (B : Body) → Fits B → B .regions ≤ 128 → (a b d : ℕ) → a < itemCount B → b < itemCount B →
-    Edge (system B) a b d ↔ ((d ≡ distance a b) × (edgeTest B a b ≡ true))
-edge-decided B F few a b d la lb = (
-  λ e. (edge-distance-is (system B) a b d e, edge-test B F few a b d e),
-  λ h. subst (λ (k : ℕ). Edge (system B) a b k) (sym (h .0)) (test-edge B F a b la lb (h .1)),
-)
-
 -- the wait of item a for item b
 module _ (B : Body) (fin : ℕ → ℕ) (p b a : ℕ) where
   met-later : metTest B fin p b a ≡ true → edgeTest B b a ≡ true → b < a → p < fin b
