@@ -35,3 +35,7 @@ edgeWords = 12672
 -- results: a word for each region
 abbrev pub resultWords : ℕ
 resultWords = 128
+
+-- the longest written text of a plan, in bytes
+abbrev pub textBytes : ℕ
+textBytes = 18726

@@ -30,6 +30,9 @@ pub const EDGE_WORDS: usize = 12672;
 // The results: a word for each region.
 pub const RESULTS: usize = 128;
 
+// The bytes of the longest written text.
+pub const TEXT_BYTES: usize = 18726;
+
 // The slot that a send or a receive, item a, works on.
 pub fn slot_of(kind: u64, a: usize) -> usize
     requires { ⌜ (kind ≤ 2) × (a < maxItems) ⌝ }

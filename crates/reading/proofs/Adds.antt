@@ -15,10 +15,11 @@ use Rattle.finite.specs.Lists.{mem}
 use Rattle.finite.proofs.Tests.{and-intro, and-true, not-both}
 use Rattle.kernels.specs.Kernels.{suits}
 use Rattle.plan.specs.Limits.{maxAccesses, maxKernel, maxPasses, maxRanks, maxRegions, maxTasks, maxWord}
-use Rattle.reading.specs.Plan.{Access, Plan, Start, Task, named, readCount, started}
+use Rattle.reading.specs.Plan.{Plan, Task, named, readCount, started}
 use Rattle.reading.specs.Reading.{State, Step, below, closed, first, isWord, lies, need, next, noTaskYet, opened, refuse, step, valueOf, withAccess, withStart, withTask}
 use Rattle.reading.specs.Written.{accessRecords, records, startRecords, taskRecords}
 use Rattle.reading.proofs.Accepted.{good}
+use Rattle.reading.proofs.Appends.{accesses-append, starts-append, tasks-append}
 use Rattle.reading.proofs.Lines.{plain}
 
 abbrev pub openRecords : Task → List Record
@@ -64,21 +65,6 @@ below-word b (Value n) l h =
 below-word b TooLarge l h = absurd (not-both h refl)
 below-word b Malformed l h = absurd (not-both h refl)
 
--- records with one more at their end
-starts-snoc : (l : List Start) (g v : ℕ) → startRecords (l ++ (record { region = g; value = v } ∷ [])) ≡ startRecords l ++ (Record.Start (Value g) (Value v) ∷ [])
-starts-snoc [] g v = refl
-starts-snoc (s ∷ l) g v = ap (λ r. Record.Start (Value (s .region)) (Value (s .value)) ∷ r) (starts-snoc l g v)
-
-accesses-snoc : (l : List Access) (m : _) (g : ℕ) → accessRecords (l ++ (record { mode = m; region = g } ∷ [])) ≡ accessRecords l ++ (Record.Access m (Value g) ∷ [])
-accesses-snoc [] m g = refl
-accesses-snoc (a ∷ l) m g = ap (λ r. Record.Access (a .mode) (Value (a .region)) ∷ r) (accesses-snoc l m g)
-
-tasks-snoc : (l : List Task) (t : Task) → taskRecords (l ++ (t ∷ [])) ≡ taskRecords l ++ (openRecords t ++ (End ∷ []))
-tasks-snoc [] t = refl
-tasks-snoc (u ∷ l) t =
-    ap (λ r. Begin (Value (u .rank)) (Value (u .kernel)) (Value (u .constant)) ∷ (accessRecords (u .accesses) ++ (End ∷ r))) (tasks-snoc l t)
-    ∙ ap (λ r. Begin (Value (u .rank)) (Value (u .kernel)) (Value (u .constant)) ∷ r) (sym (append-assoc (accessRecords (u .accesses)) (End ∷ taskRecords l) (openRecords t ++ (End ∷ []))))
-
 no-tasks : (l : List Task) → eqb (length l) 0 ≡ true → l ≡ []
 no-tasks [] h = refl
 no-tasks (t ∷ l) h = absurd (not-both h (eqb·suc-zero (length l)))
@@ -88,19 +74,19 @@ start-adds P g v h =
     rw (no-tasks (P .tasks) h)
     (ap (λ r. Loop (Value (P .passes)) (Value (P .ranks)) (Value (P .regions)) ∷ r)
     (append-nil (startRecords (P .starts ++ (record { region = g; value = v } ∷ [])))
-    ∙ starts-snoc (P .starts) g v
+    ∙ starts-append (P .starts) (record { region = g; value = v } ∷ [])
     ∙ ap (λ r. r ++ (Record.Start (Value g) (Value v) ∷ [])) (sym (append-nil (startRecords (P .starts))))))
 
 task-adds : (P : Plan) (t : Task) → records (withTask P t) ≡ (records P ++ openRecords t) ++ (End ∷ [])
 task-adds P t =
     ap (λ r. Loop (Value (P .passes)) (Value (P .ranks)) (Value (P .regions)) ∷ r)
-    (ap (λ r. startRecords (P .starts) ++ r) (tasks-snoc (P .tasks) t)
+    (ap (λ r. startRecords (P .starts) ++ r) (tasks-append (P .tasks) (t ∷ []))
     ∙ sym (append-assoc (startRecords (P .starts)) (taskRecords (P .tasks)) (openRecords t ++ (End ∷ [])))
     ∙ sym (append-assoc (startRecords (P .starts) ++ taskRecords (P .tasks)) (openRecords t) (End ∷ [])))
 
 access-adds : (P : Plan) (t : Task) (m : _) (g : ℕ) → records P ++ openRecords (withAccess t m g) ≡ (records P ++ openRecords t) ++ (Record.Access m (Value g) ∷ [])
 access-adds P t m g =
-    ap (λ r. records P ++ (Begin (Value (t .rank)) (Value (t .kernel)) (Value (t .constant)) ∷ r)) (accesses-snoc (t .accesses) m g)
+    ap (λ r. records P ++ (Begin (Value (t .rank)) (Value (t .kernel)) (Value (t .constant)) ∷ r)) (accesses-append (t .accesses) (record { mode = m; region = g } ∷ []))
     ∙ sym (append-assoc (records P) (openRecords t) (Record.Access m (Value g) ∷ []))
 
 pub step-adds : (s : State) (r : Record) → good s → Adds (recordsOf s) r (step s r)

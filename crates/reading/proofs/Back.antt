@@ -64,6 +64,19 @@ pub word-at : (P : Plan) (i : ℕ) → i < planWords → getD (wordsOf P) i 0 �
 unfolding wordsOf
 word-at P i h = getD-tabulate (wordAt P) planWords i 0 h
 
+-- plans that differ in their `start` records alone, and start at the same values, have the same words
+pub words-same : (P Q : Plan) → P .passes ≡ Q .passes → P .ranks ≡ Q .ranks → P .regions ≡ Q .regions → P .tasks ≡ Q .tasks →
+    ((g : ℕ) → startAt (P .starts) g ≡ startAt (Q .starts) g) → wordsOf P ≡ wordsOf Q
+unfolding wordsOf
+words-same P Q p q n t s = tabulate-ext planWords (wordAt P) (wordAt Q) (λ i h. same i)
+  where
+    same : (i : ℕ) → wordAt P i ≡ wordAt Q i
+    same zero = p
+    same (suc zero) = q
+    same (suc (suc zero)) = n
+    same (suc (suc (suc zero))) = ap length t
+    same (suc (suc (suc (suc i)))) = rw (s i, t)
+
 module _ (P : Plan) (L : Limits P) where
   abbrev words : List ℕ
   words = wordsOf P
@@ -110,7 +123,7 @@ module _ (P : Plan) (L : Limits P) where
       (tabulate-ext (length (P .tasks)) (taskOf words) (λ i. getD (P .tasks) i noTask) task-back
       ∙ tabulate-list (P .tasks) noTask)
 
-  abbrev again : Plan
+  abbrev pub again : Plan
   again =
       record {
         passes = P .passes;
@@ -138,7 +151,7 @@ module _ (P : Plan) (L : Limits P) where
   pub start-value : (g : ℕ) → g < maxRegions → getD words (4 + g) 0 ≡ startAt (P .starts) g
   start-value g h = word-at P (4 + g) (omega arith) ∙ start-word P g h
 
-  start-same : (g : ℕ) → startAt (startsOf words 0 (P .regions)) g ≡ startAt (P .starts) g
+  pub start-same : (g : ℕ) → startAt (startsOf words 0 (P .regions)) g ≡ startAt (P .starts) g
   start-same g = go (ltb g (P .regions)) refl
     where
       go : (t : Bool) → ltb g (P .regions) ≡ t → startAt (startsOf words 0 (P .regions)) g ≡ startAt (P .starts) g
@@ -165,16 +178,8 @@ module _ (P : Plan) (L : Limits P) where
         tasks = L .tasks;
       }
 
-  word-same : (i : ℕ) → wordAt again i ≡ wordAt P i
-  word-same zero = refl
-  word-same (suc zero) = refl
-  word-same (suc (suc zero)) = refl
-  word-same (suc (suc (suc zero))) = refl
-  word-same (suc (suc (suc (suc i)))) = rw (start-same i)
-
   words-back : wordsOf (planOf words) ≡ words
-  unfolding wordsOf
-  words-back = ap wordsOf plan-back ∙ tabulate-ext planWords (wordAt again) (wordAt P) (λ i h. word-same i)
+  words-back = ap wordsOf plan-back ∙ words-same again P refl refl refl refl start-same
 
   pub is-canonical : 1 ≤ length (P .tasks) → canonical words ≡ true
   unfolding canonical

@@ -1,7 +1,7 @@
 -- A number's decimal digits are read back to it.
 use Prim.Native.Nat.{ℕ, zero, suc, _+_, _-_, _*_, _/_, _%_, _≤_, _<_}
 use mathlib.Core.Path.{_≡_, refl, _∙_}
-use mathlib.Core.Bool.{Bool, true, false}
+use mathlib.Core.Bool.{Bool, true, false, cond}
 use mathlib.Core.List.{List, [], _∷_, _++_}
 use native.Mathlib.Omega.{arith}
 use borrow.Author.Tests.{ltb-true, ltb-false, leb-true, lt-ltb, le-leb, ne-eqb}
@@ -16,7 +16,8 @@ use Rattle.text.proofs.NumberLaws.{zero-more, zero-one}
 use Rattle.reading.specs.Reading.{isWord}
 use Rattle.reading.specs.Written.{decimal, digits}
 
-limit : ℕ → ℕ
+-- the least number of more than k + 1 digits
+unfoldable pub limit : ℕ → ℕ
 limit zero = 10
 limit (suc k) = 10 * limit k
 
@@ -97,9 +98,8 @@ pub record Digits (x : Number) : Type 0 where
   pub back : numberOf (digits x) ≡ x
   pub sounds : sound x ≡ true
   pub all : allDigits (digits x) ≡ true
-  pub most : length (digits x) ≤ 20
 
-below : (n : ℕ) → n ≤ 18446744073709551615 → n < limit 19
+pub below : (n : ℕ) → n ≤ 18446744073709551615 → n < limit 19
 unfolding limit
 below n k = omega arith
 
@@ -108,6 +108,20 @@ unfolding digits
 digits-of (Value n) h =
     let k : n ≤ 18446744073709551615 = leb-true _ _ (and-true (leb 0 n) (leb n 18446744073709551615) h .1) in
     let w = writes 19 n (below n k) in
-    record { back = reads-back n (decimal 19 n) w k; sounds = refl; all = w .all; most = w .most }
+    record { back = reads-back n (decimal 19 n) w k; sounds = refl; all = w .all }
 digits-of TooLarge h = absurd (not-both h refl)
 digits-of Malformed h = absurd (not-both h refl)
+
+decimal-most : (j k n : ℕ) → n < limit j → length (decimal k n) ≤ suc j
+unfolding limit
+decimal-most j zero n h = omega arith
+decimal-most zero (suc k) n h = rw (lt-ltb n 10 h) (omega arith)
+decimal-most (suc j) (suc k) n h = go (ltb n 10) (decimal-most j k (n / 10) (omega arith))
+  where
+    go : (t : Bool) → length (decimal k (n / 10)) ≤ suc j → length (cond t ((48 + n) ∷ []) (decimal k (n / 10) ++ ((48 + n % 10) ∷ []))) ≤ suc (suc j)
+    go true ih = omega arith
+    go false ih = omega (arith, length-append (decimal k (n / 10)) ((48 + n % 10) ∷ []))
+
+pub digits-most : (j n : ℕ) → n < limit j → length (digits (Value n)) ≤ suc j
+unfolding digits
+digits-most j n h = decimal-most j 19 n h

@@ -22,6 +22,7 @@ use Rattle.reading.specs.Reading.{need, next, noTaskYet, onStep, opened,
 use Rattle.reading.specs.Refusals.{Fit, Last, begins, countOf, firstFit, fitAt, fitFrom, isBegin, isEnd, isOpen, lastFit, lastFrom, lastTask, noFit, startsSaid}
 use Rattle.reading.specs.Written.{accessRecords, line, records, startRecords, taskRecords, textFrom}
 use Rattle.reading.proofs.Accepted.{good, goodStep, step-good}
+use Rattle.reading.proofs.Appends.{text-append}
 use Rattle.reading.proofs.Adds.{Adds, openRecords, recordsOf, step-adds}
 use Rattle.reading.proofs.Limits.{is-valid}
 use Rattle.reading.proofs.Numbers.{KnownStep, known-step}
@@ -168,11 +169,10 @@ step-fits (opened P t) Unreadable = refl
 
 -- the text of records with one more at their end
 text-snoc : (rs : List Record) (r : Record) (rest : List ℕ) → textFrom (rs ++ (r ∷ [])) ++ rest ≡ textFrom rs ++ (line r ++ (10 ∷ rest))
-text-snoc [] r rest = append-assoc (line r) (10 ∷ []) rest
-text-snoc (x ∷ rs) r rest =
-    append-assoc (line x) (10 ∷ textFrom (rs ++ (r ∷ []))) rest
-    ∙ ap (λ (t : List ℕ). line x ++ (10 ∷ t)) (text-snoc rs r rest)
-    ∙ sym (append-assoc (line x) (10 ∷ textFrom rs) (line r ++ (10 ∷ rest)))
+text-snoc rs r rest =
+    ap (λ (t : List ℕ). t ++ rest) (text-append rs (r ∷ []))
+    ∙ append-assoc (textFrom rs) (line r ++ (10 ∷ [])) rest
+    ∙ ap (λ (t : List ℕ). textFrom rs ++ t) (append-assoc (line r) (10 ∷ []) rest)
 
 -- the whole text is that of the records read, then the lines left
 module _ (text : List ℕ) where

@@ -9,12 +9,15 @@ pub mod Lines
 pub mod Sizes
 pub mod Runs
 pub mod Round
+pub mod Traces
 pub mod Forms
 pub mod Theorems
 pub mod Unique
+pub mod Appends
 pub mod Adds
 pub mod Says
 pub mod Holds
 pub mod Cases
 pub mod Numbers
 pub mod FirstFit
+pub mod Longest

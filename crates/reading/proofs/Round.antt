@@ -4,23 +4,24 @@ use mathlib.Core.Path.{_≡_, refl, ap, _∙_}
 use mathlib.Core.Bool.{true, false}
 use mathlib.Core.List.{List}
 use native.Mathlib.Omega.{arith}
-use borrow.Author.Tests.{leb-true, le-ltb}
+use borrow.Author.Tests.{le-ltb}
 use lib.Dec.{eqb, leb, eqb·suc-zero}
-use lib.ListN.{length, getD}
+use lib.ListN.{length}
 use Rattle.finite.proofs.Tests.{and-true, not-both}
 use Rattle.body.specs.Transfers.{transferCount}
 use Rattle.text.proofs.WordLaws.{alike-same}
-use Rattle.plan.specs.Layout.{bodyOf}
-use Rattle.plan.specs.Limits.{maxBytes, maxTransfers, maxRegions, maxTasks}
+use Rattle.plan.specs.Layout.{bodyOf, regionsOf}
+use Rattle.plan.specs.Limits.{maxBytes, maxTransfers}
+use Rattle.plan.specs.Sizes.{textBytes}
 use Rattle.reading.specs.Plan.{Plan, planOf, wordsOf}
 use Rattle.reading.specs.Reading.{accepted, atEnd, closed, first, readOf}
 use Rattle.reading.specs.Valid.{valid}
-use Rattle.reading.specs.Written.{records, textFrom, textOf}
+use Rattle.reading.specs.Written.{Rising, records, textFrom, textOf}
 use Rattle.reading.proofs.Canonical.{canonical}
 use Rattle.reading.proofs.Limits.{Limits, is-valid, limits}
 use Rattle.reading.proofs.Runs.{read-text, run-records}
-use Rattle.reading.proofs.Sizes.{records-short}
-use Rattle.reading.proofs.Starts.{starts-length}
+use Rattle.reading.proofs.Sizes.{records-plain, records-size}
+use Rattle.reading.proofs.Starts.{starts-rising}
 
 -- what words in form are
 pub record Said (w : List ℕ) : Type 0 where
@@ -35,18 +36,13 @@ said w h =
     let b = and-true (leb 1 (length (planOf w .tasks))) _ (a .1) in
     record { valids = a .0; some = b .0; words = alike-same _ _ (b .1) }
 
-few-starts : (w : List ℕ) → Limits (planOf w) → length (planOf w .starts) ≤ maxRegions
+pub plan-rising : (w : List ℕ) → Rising 0 (planOf w .starts)
 unfolding planOf
-few-starts w L =
-    let r : getD w 2 0 ≤ maxRegions = leb-true _ _ (L .regions) in
-    omega (arith, starts-length w 0 (getD w 2 0))
+plan-rising w = starts-rising w 0 (regionsOf w)
 
-pub short : (w : List ℕ) → canonical w ≡ true → length (textOf w) ≤ maxBytes
+pub longest : (w : List ℕ) → canonical w ≡ true → length (textOf w) ≤ textBytes
 unfolding textOf
-short w h =
-    let L = limits (planOf w) (said w h .valids) in
-    let c : length (planOf w .tasks) ≤ maxTasks = leb-true _ _ (L .count) in
-    omega (arith, few-starts w L, records-short (planOf w) L .size)
+longest w h = records-size (planOf w) (limits (planOf w) (said w h .valids)) (plan-rising w)
 
 some-task : (k : ℕ) → leb 1 k ≡ true → eqb k 0 ≡ false
 some-task zero h = absurd (not-both h refl)
@@ -60,11 +56,11 @@ pub text-read : (P : Plan) → Limits P → length (textFrom (records P)) ≤ ma
     leb (transferCount (bodyOf (wordsOf P))) maxTransfers ≡ true → readOf (textFrom (records P)) ≡ accepted (wordsOf P)
 unfolding readOf
 text-read P L k s t =
-    let r = read-text (records P) 1 first (closed P) (records-short P L .plains) (run-records P (is-valid P L)) in
+    let r = read-text (records P) 1 first (closed P) (records-plain P L) (run-records P (is-valid P L)) in
     rw (le-ltb maxBytes (length (textFrom (records P))) k) (r .1 ∙ end-read (r .0) P s t)
 
 pub reads-back : (w : List ℕ) → canonical w ≡ true → leb (transferCount (bodyOf w)) maxTransfers ≡ true → readOf (textOf w) ≡ accepted w
 unfolding textOf
 reads-back w h t =
     let s = said w h in
-    text-read (planOf w) (limits (planOf w) (s .valids)) (short w h) (s .some) (rw (s .words) t) ∙ ap accepted (s .words)
+    text-read (planOf w) (limits (planOf w) (s .valids)) (omega (arith, longest w h)) (s .some) (rw (s .words) t) ∙ ap accepted (s .words)

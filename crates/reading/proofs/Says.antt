@@ -23,8 +23,8 @@ use Rattle.reading.proofs.Round.{text-read}
 not-accepted : {X : Type 0} (n m : ℕ) (w : List ℕ) → refused n m ≡ accepted w → X
 not-accepted n m w e = let z : _≡_ {A = ℕ} 0 1 = cc in absurd (omega arith)
 
-words-same : (v w : List ℕ) → accepted w ≡ accepted v → w ≡ v
-words-same v w e = cc
+pub accepted-same : (v w : List ℕ) → accepted w ≡ accepted v → w ≡ v
+accepted-same v w e = cc
 
 -- where the words are the answer no refusal fits, and the transfers are few
 answers-says : (text w : List ℕ) (f : Fit) → length text ≤ maxBytes → Answers text (accepted w) f → (P : Plan) × Says text P × (w ≡ wordsOf P)
@@ -32,7 +32,7 @@ answers-says text w (fit n l) h A = not-accepted n l w (sym A)
 answers-says text w (noFit l) h (P, lines, within, some, e) = go (leb (transferCount (bodyOf (wordsOf P))) maxTransfers) refl e
   where
     go : (b : Bool) → leb (transferCount (bodyOf (wordsOf P))) maxTransfers ≡ b → accepted w ≡ cond b (accepted (wordsOf P)) (refused 10 l) → (P : Plan) × Says text P × (w ≡ wordsOf P)
-    go true t e = (P, record { lines = lines; size = h; within = within; some = some; transfers = leb-true _ _ t }, words-same (wordsOf P) w e)
+    go true t e = (P, record { lines = lines; size = h; within = within; some = some; transfers = leb-true _ _ t }, accepted-same (wordsOf P) w e)
     go false t e = not-accepted 10 l w (sym e)
 
 pub accepted-says : (text w : List ℕ) → readOf text ≡ accepted w → (P : Plan) × Says text P × (w ≡ wordsOf P)

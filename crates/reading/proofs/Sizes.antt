@@ -1,10 +1,11 @@
--- The written text is made of records that can be written, and is short.
-use Prim.Native.Nat.{ℕ, zero, suc, _+_, _*_, _/_, _%_, _≤_, _<_}
-use mathlib.Core.Path.{_≡_, refl}
-use mathlib.Core.Bool.{Bool, true, false, cond, _&&_}
+-- The records of a plan can be written, and the written text is short.
+use Prim.Native.Nat.{ℕ, zero, suc, _+_, _*_, _≤_, _<_}
+use mathlib.Core.Path.{_≡_, refl, ap}
+use mathlib.Core.Bool.{true, _&&_}
 use mathlib.Core.List.{List, [], _∷_, _++_}
 use native.Mathlib.Omega.{arith}
-use borrow.Author.Tests.{leb-true, ltb-true, le-leb, lt-ltb}
+use native.Mathlib.Decide.{ℕ-discrete}
+use borrow.Author.Tests.{leb-true, ltb-true, le-leb}
 use lib.Dec.{leb, ltb, leb·zero}
 use lib.ListN.{length, length-append}
 use Rattle.text.specs.declared.Number.{Number}
@@ -13,43 +14,18 @@ use Rattle.text.specs.declared.Mode.{Mode}
 use Rattle.text.specs.declared.Record.{Record}
 use Rattle.text.specs.declared.Record.the-variants.{Loop, Begin, End}
 use Rattle.finite.proofs.Tests.{and-intro, and-true}
-use Rattle.plan.specs.Limits.{maxPasses, maxRanks, maxRegions, maxTasks, maxWord}
+use Rattle.plan.specs.Limits.{maxKernel, maxPasses, maxRanks, maxRegions, maxTasks, maxWord}
+use Rattle.plan.specs.Sizes.{textBytes}
 use Rattle.reading.specs.Plan.{Access, Plan, Start, Task}
 use Rattle.reading.specs.Reading.{isWord}
 use Rattle.reading.specs.Valid.{accessFits, every, inWord, openFits, startFits, taskFits}
-use Rattle.reading.specs.Written.{accessRecords, decimal, digits, line, records, startRecords, taskRecords, textFrom}
-use Rattle.reading.proofs.Decimal.{digits-of}
+use Rattle.reading.specs.Written.{Rising, accessRecords, digits, line, records, startRecords, taskRecords, textFrom}
+use Rattle.reading.proofs.Decimal.{below, digits-most, limit}
 use Rattle.reading.proofs.Limits.{Limits, opens}
 use Rattle.reading.proofs.Lines.{plain}
 
 word-of : (v : ℕ) → v ≤ maxWord → isWord (Value v) ≡ true
 word-of v h = and-intro (leb 0 v) (leb v maxWord) (leb·zero v) (le-leb v maxWord h)
-
--- digits of a small number
-one : (k n : ℕ) → n < 10 → length (decimal k n) ≡ 1
-one zero n h = refl
-one (suc k) n h = rw (lt-ltb n 10 h)
-
-two : (k n : ℕ) → n < 100 → length (decimal (suc k) n) ≤ 2
-two k n h = go (ltb n 10) refl
-  where
-    go : (t : Bool) → ltb n 10 ≡ t → length (cond t ((48 + n) ∷ []) (decimal k (n / 10) ++ ((48 + n % 10) ∷ []))) ≤ 2
-    go true e = omega arith
-    go false e = omega (arith, length-append (decimal k (n / 10)) ((48 + n % 10) ∷ []), one k (n / 10) (omega arith))
-
-three : (k n : ℕ) → n < 1000 → length (decimal (suc (suc k)) n) ≤ 3
-three k n h = go (ltb n 10) refl
-  where
-    go : (t : Bool) → ltb n 10 ≡ t → length (cond t ((48 + n) ∷ []) (decimal (suc k) (n / 10) ++ ((48 + n % 10) ∷ []))) ≤ 3
-    go true e = omega arith
-    go false e = omega (arith, length-append (decimal (suc k) (n / 10)) ((48 + n % 10) ∷ []), two k (n / 10) (omega arith))
-
-short : (n : ℕ) → n < 1000 → length (digits (Value n)) ≤ 3
-unfolding digits
-short n h = three 17 n h
-
-long : (v : ℕ) → v ≤ maxWord → length (digits (Value v)) ≤ 20
-long v h = digits-of (Value v) (word-of v h) .most
 
 -- two and three numbers in a line
 pair-length : (x y : Number) → length (digits x ++ (9 ∷ digits y)) ≡ length (digits x) + length (digits y) + 1
@@ -61,38 +37,67 @@ triple-length x y z = omega (arith, length-append (digits x) (9 ∷ (digits y ++
 text-length : (r : Record) (l : List Record) → length (textFrom (r ∷ l)) ≡ length (line r) + length (textFrom l) + 1
 text-length r l = omega (arith, length-append (line r) (10 ∷ textFrom l))
 
-start-length : (g v : ℕ) → g ≤ maxWord → v ≤ maxWord → length (line (Record.Start (Value g) (Value v))) ≤ 47
-start-length g v a b = omega (arith, pair-length (Value g) (Value v), long g a, long v b)
+start-length : (g v : ℕ) → v ≤ maxWord → length (line (Record.Start (Value g) (Value v))) ≤ 27 + length (digits (Value g))
+start-length g v h = omega (arith, pair-length (Value g) (Value v), digits-most 19 v (below v h))
 
-loop-length : (p q n : ℕ) → p ≤ maxWord → q ≤ maxWord → n ≤ maxWord → length (line (Loop (Value p) (Value q) (Value n))) ≤ 67
-loop-length p q n a b c = omega (arith, triple-length (Value p) (Value q) (Value n), long p a, long q b, long n c)
+loop-length : (p q n : ℕ) → p ≤ maxPasses → q ≤ maxRanks → n ≤ maxRegions → length (line (Loop (Value p) (Value q) (Value n))) ≤ 19
+unfolding limit
+loop-length p q n a b c =
+    omega (arith, triple-length (Value p) (Value q) (Value n), digits-most 6 p (omega arith), digits-most 1 q (omega arith), digits-most 2 n (omega arith))
 
-begin-length : (q k c : ℕ) → q ≤ maxWord → k ≤ maxWord → c ≤ maxWord → length (line (Begin (Value q) (Value k) (Value c))) ≤ 68
-begin-length q k c a b d = omega (arith, triple-length (Value q) (Value k) (Value c), long q a, long k b, long c d)
+begin-length : (q k c : ℕ) → q < maxRanks → k ≤ maxKernel → c ≤ maxWord → length (line (Begin (Value q) (Value k) (Value c))) ≤ 31
+unfolding limit
+begin-length q k c a b d =
+    omega (arith, triple-length (Value q) (Value k) (Value c), digits-most 1 q (omega arith), digits-most 0 k (omega arith), digits-most 19 c (below c d))
 
-access-length : (m : Mode) (g : ℕ) → g < 1000 → length (line (Record.Access m (Value g))) ≤ 9
-access-length Mode.In g h = omega (arith, short g h)
-access-length Mode.Out g h = omega (arith, short g h)
-access-length Mode.Inout g h = omega (arith, short g h)
+access-length : (m : Mode) (g : ℕ) → g < maxRegions → length (line (Record.Access m (Value g))) ≤ 9
+unfolding limit
+access-length Mode.In g h = omega (arith, digits-most 2 g (omega arith))
+access-length Mode.Out g h = omega (arith, digits-most 2 g (omega arith))
+access-length Mode.Inout g h = omega (arith, digits-most 2 g (omega arith))
 
--- records that can be written, of a bounded length
-pub record Short (most : ℕ) (l : List Record) : Type 0 where
-  pub plains : every plain l ≡ true
-  pub size : length (textFrom l) ≤ most
-
-starts-short : (n : ℕ) (l : List Start) (b : List Record) (m : ℕ) → n ≤ maxRegions → every (startFits n) l ≡ true → Short m b → Short (48 * length l + m) (startRecords l ++ b)
-starts-short n [] b m h k s = record { plains = s .plains; size = omega (arith, s .size) }
-starts-short n (x ∷ l) b m h k s =
+starts-plain : (n : ℕ) (l : List Start) (b : List Record) → n ≤ maxRegions → every (startFits n) l ≡ true → every plain b ≡ true → every plain (startRecords l ++ b) ≡ true
+starts-plain n [] b h k s = s
+starts-plain n (x ∷ l) b h k s =
     let a = and-true (startFits n x) (every (startFits n) l) k in
     let e = and-true (ltb (x .region) n) (inWord (x .value)) (a .0) in
     let c : x .region < n = ltb-true _ _ (e .0) in
     let v : x .value ≤ maxWord = leb-true _ _ (e .1) in
-    let i = starts-short n l b m h (a .1) s in
-    let z = start-length (x .region) (x .value) (omega arith) v in
-    record {
-      plains = and-intro (isWord (Value (x .region)) && isWord (Value (x .value))) _ (and-intro (isWord (Value (x .region))) _ (word-of (x .region) (omega arith)) (word-of (x .value) v)) (i .plains);
-      size = omega (arith, text-length (Record.Start (Value (x .region)) (Value (x .value))) (startRecords l ++ b), z, i .size);
-    }
+    and-intro (isWord (Value (x .region)) && isWord (Value (x .value))) _ (and-intro (isWord (Value (x .region))) _ (word-of (x .region) (omega arith)) (word-of (x .value) v))
+    (starts-plain n l b h (a .1) s)
+
+-- room for a `start` of each of the n regions from g on
+room : ℕ → ℕ → ℕ
+room zero g = 0
+room (suc n) g = 28 + length (digits (Value g)) + room n (suc g)
+
+starts-size : (m n g : ℕ) (l : List Start) (b : List Record) → m ≤ g + n → every (startFits m) l ≡ true → Rising g l →
+    length (textFrom (startRecords l ++ b)) ≤ room n g + length (textFrom b)
+unfolding room
+starts-size m n g [] b h k r = omega arith
+starts-size m zero g (x ∷ l) b h k r =
+    let c : x .region < m = ltb-true _ _ (and-true (ltb (x .region) m) _ (and-true (startFits m x) (every (startFits m) l) k .0) .0) in
+    absurd (omega (arith, r .0))
+starts-size m (suc n) g (x ∷ l) b h k r =
+    let a = and-true (startFits m x) (every (startFits m) l) k in
+    let v : x .value ≤ maxWord = leb-true _ _ (and-true (ltb (x .region) m) (inWord (x .value)) (a .0) .1) in
+    elim (ℕ-discrete g (x .region)) [
+      | yes e ↦
+          let i = starts-size m n (suc g) l b (omega arith) (a .1) (rw e (r .2)) in
+          omega (
+            arith,
+            text-length (Record.Start (Value (x .region)) (Value (x .value))) (startRecords l ++ b),
+            start-length (x .region) (x .value) v,
+            ap (λ (y : ℕ). length (digits (Value y))) e,
+            i,
+          )
+      | no e ↦ omega (arith, starts-size m n (suc g) (x ∷ l) b (omega arith) k (omega (arith, r .0), r .1, r .2))
+    ]
+
+-- records that can be written, of a bounded length
+record Short (most : ℕ) (l : List Record) : Type 0 where
+  plains : every plain l ≡ true
+  size : length (textFrom l) ≤ most
 
 accesses-short : (n : ℕ) (l : List Access) (b : List Record) (m : ℕ) → n ≤ maxRegions → every (accessFits n) l ≡ true → Short m b → Short (10 * length l + m) (accessRecords l ++ b)
 accesses-short n [] b m h k s = record { plains = s .plains; size = omega (arith, s .size) }
@@ -109,17 +114,17 @@ accesses-short n (x ∷ l) b m h k s =
 end-short : (l : List Record) (m : ℕ) → Short m l → Short (4 + m) (End ∷ l)
 end-short l m s = record { plains = s .plains; size = omega (arith, text-length End l, s .size) }
 
-tasks-short : (q n : ℕ) (l : List Task) → q ≤ maxRanks → n ≤ maxRegions → every (taskFits q n) l ≡ true → Short (153 * length l) (taskRecords l)
+tasks-short : (q n : ℕ) (l : List Task) → q ≤ maxRanks → n ≤ maxRegions → every (taskFits q n) l ≡ true → Short (116 * length l) (taskRecords l)
 tasks-short q n [] h g k = record { plains = refl; size = omega arith }
 tasks-short q n (t ∷ l) h g k =
     let a = and-true (taskFits q n t) (every (taskFits q n) l) k in
     let o = opens q n t (and-true (openFits q n t) _ (a .0) .0) in
     let r : t .rank < q = ltb-true _ _ (o .rank) in
-    let f : t .kernel ≤ 4 = leb-true _ _ (o .kernel) in
+    let f : t .kernel ≤ maxKernel = leb-true _ _ (o .kernel) in
     let c : t .constant ≤ maxWord = leb-true _ _ (o .constant) in
     let m : length (t .accesses) ≤ 8 = leb-true _ _ (o .count) in
-    let i = accesses-short n (t .accesses) (End ∷ taskRecords l) (4 + 153 * length l) g (o .accesses) (end-short (taskRecords l) (153 * length l) (tasks-short q n l h g (a .1))) in
-    let z = begin-length (t .rank) (t .kernel) (t .constant) (omega arith) (omega arith) c in
+    let i = accesses-short n (t .accesses) (End ∷ taskRecords l) (4 + 116 * length l) g (o .accesses) (end-short (taskRecords l) (116 * length l) (tasks-short q n l h g (a .1))) in
+    let z = begin-length (t .rank) (t .kernel) (t .constant) (omega arith) f c in
     record {
       plains =
           and-intro (plain (Begin (Value (t .rank)) (Value (t .kernel)) (Value (t .constant)))) _
@@ -129,19 +134,41 @@ tasks-short q n (t ∷ l) h g k =
       size = omega (arith, text-length (Begin (Value (t .rank)) (Value (t .kernel)) (Value (t .constant))) (accessRecords (t .accesses) ++ (End ∷ taskRecords l)), z, i .size);
     }
 
-pub records-short : (P : Plan) → Limits P → Short (68 + (48 * length (P .starts) + 153 * length (P .tasks))) (records P)
-records-short P L =
-    let p : P .passes ≤ maxPasses = leb-true _ _ (L .passes) in
-    let q : P .ranks ≤ maxRanks = leb-true _ _ (L .ranks) in
-    let n : P .regions ≤ maxRegions = leb-true _ _ (L .regions) in
-    let c : length (P .tasks) ≤ maxTasks = leb-true _ _ (L .count) in
-    let i = starts-short (P .regions) (P .starts) (taskRecords (P .tasks)) (153 * length (P .tasks)) n (L .starts) (tasks-short (P .ranks) (P .regions) (P .tasks) q n (L .tasks)) in
-    let z = loop-length (P .passes) (P .ranks) (P .regions) (omega arith) (omega arith) (omega arith) in
-    record {
-      plains =
-          and-intro (plain (Loop (Value (P .passes)) (Value (P .ranks)) (Value (P .regions)))) _
-          (and-intro (isWord (Value (P .passes))) _ (word-of (P .passes) (omega arith))
-          (and-intro (isWord (Value (P .ranks))) _ (word-of (P .ranks) (omega arith)) (word-of (P .regions) (omega arith))))
-          (i .plains);
-      size = omega (arith, text-length (Loop (Value (P .passes)) (Value (P .ranks)) (Value (P .regions))) (startRecords (P .starts) ++ taskRecords (P .tasks)), z, i .size);
-    }
+starts-room : room maxRegions 0 ≡ 3858
+unfolding room digits
+starts-room = refl
+
+module _ (P : Plan) (L : Limits P) where
+  passes-most : P .passes ≤ maxPasses
+  passes-most = leb-true _ _ (L .passes)
+
+  ranks-most : P .ranks ≤ maxRanks
+  ranks-most = leb-true _ _ (L .ranks)
+
+  regions-most : P .regions ≤ maxRegions
+  regions-most = leb-true _ _ (L .regions)
+
+  tasks-whole : Short (116 * length (P .tasks)) (taskRecords (P .tasks))
+  tasks-whole = tasks-short (P .ranks) (P .regions) (P .tasks) ranks-most regions-most (L .tasks)
+
+  pub records-plain : every plain (records P) ≡ true
+  records-plain =
+      let p = passes-most in
+      let q = ranks-most in
+      let n = regions-most in
+      and-intro (plain (Loop (Value (P .passes)) (Value (P .ranks)) (Value (P .regions)))) _
+      (and-intro (isWord (Value (P .passes))) _ (word-of (P .passes) (omega arith))
+      (and-intro (isWord (Value (P .ranks))) _ (word-of (P .ranks) (omega arith)) (word-of (P .regions) (omega arith))))
+      (starts-plain (P .regions) (P .starts) (taskRecords (P .tasks)) n (L .starts) (tasks-whole .plains))
+
+  pub records-size : Rising 0 (P .starts) → length (textFrom (records P)) ≤ textBytes
+  records-size r =
+      let c : length (P .tasks) ≤ maxTasks = leb-true _ _ (L .count) in
+      omega (
+        arith,
+        text-length (Loop (Value (P .passes)) (Value (P .ranks)) (Value (P .regions))) (startRecords (P .starts) ++ taskRecords (P .tasks)),
+        loop-length (P .passes) (P .ranks) (P .regions) passes-most ranks-most regions-most,
+        starts-size (P .regions) maxRegions 0 (P .starts) (taskRecords (P .tasks)) regions-most (L .starts) r,
+        starts-room,
+        tasks-whole .size,
+      )

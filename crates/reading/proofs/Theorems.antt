@@ -1,6 +1,6 @@
 -- The laws of reading.
 use Prim.Native.Nat.{ℕ, zero, suc, _-_, _/_, _%_, _≤_, _<_}
-use mathlib.Core.Path.{_≡_, refl}
+use mathlib.Core.Path.{_≡_, refl, sym, ap, _∙_}
 use mathlib.Core.Bool.{Bool, true, false, cond}
 use mathlib.Core.List.{List, [], _∷_}
 use native.Mathlib.Omega.{arith}
@@ -17,7 +17,7 @@ use Rattle.plan.specs.Layout.{bodyOf, planWords, taskWords}
 use Rattle.plan.specs.Limits.{maxTransfers, maxPasses, maxRanks, maxRegions, maxTasks, maxWord}
 use Rattle.plan.proofs.Facts.{fits}
 use Rattle.plan.proofs.Zeros.{zeros}
-use Rattle.reading.specs.Laws.{Laws}
+use Rattle.reading.specs.Laws.{TextLaws, Laws}
 use Rattle.reading.specs.Plan.{Plan, Task, accessWord, noTask, startAt, taskAt, taskWord, wordAt, wordsOf}
 use Rattle.reading.specs.Reading.{accepted, readOf}
 use Rattle.reading.specs.Valid.{accessFits, every, openFits, taskFits}
@@ -27,10 +27,11 @@ use Rattle.reading.proofs.FirstFit.{read-answers, too-long}
 use Rattle.reading.proofs.Forms.{canonical-ok, mode-few, ok-canonical}
 use Rattle.reading.proofs.Holds.{held}
 use Rattle.reading.proofs.Limits.{Limits, Opens, is-open, limits, opens}
+use Rattle.reading.proofs.Longest.{long-reached, long-says, longPlan}
 use Rattle.reading.proofs.Numbers.{refusal-known}
-use Rattle.reading.proofs.Round.{short}
-use Rattle.reading.proofs.Says.{accepted-says, says-accepted}
+use Rattle.reading.proofs.Says.{accepted-same, accepted-says, says-accepted}
 use Rattle.reading.proofs.Starts.{start-fits}
+use Rattle.reading.proofs.Traces.{no-trace, written}
 
 -- a test that passes for each, and for what stands beyond
 every-any : {X : Type 0} (p : X → Bool) (l : List X) (i : ℕ) (d : X) → every p l ≡ true → p d ≡ true → p (getD l i d) ≡ true
@@ -129,8 +130,6 @@ laws =
     record {
       accepts = λ text w. (accepted-says text w, λ p. rw (p .2) (says-accepted text (p .0) (p .1)));
       holds = λ P h. held P (limits P h);
-      short = λ w W h. Round.short w (ok-canonical w W (form-parts w h .0));
-      reads-back = reads-back;
       words = words;
       in-form = in-form;
       exactly = λ w W. (λ h. (textOf w, reads-back w W h), λ r. in-form (r .0) w (r .1));
@@ -139,4 +138,15 @@ laws =
       first-fits = read-answers;
       numbers = refusal-known;
       fits = λ w h. fits w (form-parts w h .0);
+    }
+
+pub text-laws : TextLaws
+text-laws =
+    record {
+      longest = λ w W h. Round.longest w (ok-canonical w W (form-parts w h .0));
+      reached = let e = says-accepted _ longPlan long-says in (wordsOf longPlan, words _ (wordsOf longPlan) e, in-form _ (wordsOf longPlan) e, long-reached);
+      reads-back = reads-back;
+      one-text = λ w v W X h k. (λ e. accepted-same v w (sym (reads-back w W h) ∙ ap readOf e ∙ reads-back v X k), ap textOf);
+      no-trace = no-trace;
+      written = written;
     }

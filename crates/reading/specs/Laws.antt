@@ -1,4 +1,4 @@
--- What is proved of reading, of words in form, and of the written text.
+-- What is proved of reading and of words in form, and of the written text.
 use Prim.Native.Nat.{ℕ, _≤_, _<_}
 use mathlib.Core.Path.{_≡_}
 use mathlib.Core.Bool.{true, false, cond}
@@ -12,11 +12,12 @@ use Rattle.text.specs.Records.{split}
 use Rattle.plan.specs.Form.{Words, inForm}
 use Rattle.plan.specs.Layout.{bodyOf, constantOf, kernelOf, passesOf, rankOf, ranksOf, readsOf, regionsOf, startingOf, tasksOf, writesOf}
 use Rattle.plan.specs.Limits.{maxBytes, maxTransfers}
+use Rattle.plan.specs.Sizes.{textBytes}
 use Rattle.reading.specs.Plan.{Plan, readMode, regionsWhere, startAt, taskAt, taskOf, wordsOf, writeMode}
 use Rattle.reading.specs.Reading.{Reading, accepted, readOf, refused}
 use Rattle.reading.specs.Refusals.{Fit, fit, fitFrom, noFit}
 use Rattle.reading.specs.Valid.{valid}
-use Rattle.reading.specs.Written.{records, textFrom, textOf}
+use Rattle.reading.specs.Written.{Rising, SameButStarts, records, textFrom, textOf}
 
 -- the text says the plan P: its lines are those of P's records in their order, and no limit is exceeded
 pub record Says (text : List ℕ) (P : Plan) : Type 0 where
@@ -57,9 +58,6 @@ pub record Laws : Type 0 where
   pub first-fits : (text : List ℕ) → length text ≤ maxBytes → Answers text (readOf text) (fitFrom 1 [] (split 10 text))
   -- a refusal has one of the numbers 1 to 10, so that 0 can say that there is none
   pub numbers : (text : List ℕ) (n line : ℕ) → readOf text ≡ refused n line → (1 ≤ n) × (n ≤ 10)
-  -- words in form are read back from their written text, which is no longer than a text may be
-  pub short : (w : List ℕ) → Words w → inForm w ≡ true → length (textOf w) ≤ maxBytes
-  pub reads-back : (w : List ℕ) → Words w → inForm w ≡ true → readOf (textOf w) ≡ accepted w
   -- what reading leaves is 1,668 words in form
   pub words : (text w : List ℕ) → readOf text ≡ accepted w → Words w
   pub in-form : (text w : List ℕ) → readOf text ≡ accepted w → inForm w ≡ true
@@ -68,3 +66,16 @@ pub record Laws : Type 0 where
   pub zeros : (n : ℕ) → inForm (replicate n 0) ≡ false
   -- the body of words in form fits, which is what the theory of bodies asks
   pub fits : (w : List ℕ) → inForm w ≡ true → Fits (bodyOf w)
+
+-- the written text of words in form
+pub record TextLaws : Type 0 where
+  -- it is no longer than this, which some reaches, is read back to the words, and is the text of no others
+  pub longest : (w : List ℕ) → Words w → inForm w ≡ true → length (textOf w) ≤ textBytes
+  pub reached : (w : List ℕ) × Words w × (inForm w ≡ true) × (length (textOf w) ≡ textBytes)
+  pub reads-back : (w : List ℕ) → Words w → inForm w ≡ true → readOf (textOf w) ≡ accepted w
+  pub one-text : (w v : List ℕ) → Words w → Words v → inForm w ≡ true → inForm v ≡ true → (textOf w ≡ textOf v) ↔ (w ≡ v)
+  -- what leaves no trace: two accepted texts are read to the same words exactly if their records differ only in the order of `start`
+  -- records and in those of value 0
+  pub no-trace : (text other : List ℕ) (P Q : Plan) → Says text P → Says other Q → (wordsOf P ≡ wordsOf Q) ↔ SameButStarts P Q
+  -- of these texts the written one is the one whose `start` records rise and have no value 0
+  pub written : (text : List ℕ) (P : Plan) → Says text P → (text ≡ textOf (wordsOf P)) ↔ Rising 0 (P .starts)

@@ -1,7 +1,9 @@
 -- The written text of a plan (paper 01, "The plan text").
-use Prim.Native.Nat.{ℕ, zero, suc, _+_, _/_, _%_}
+use Prim.Native.Nat.{ℕ, zero, suc, _+_, _/_, _%_, _≤_}
+use mathlib.Core.Path.{_≡_}
+use mathlib.Core.Logic.{_↔_}
 use mathlib.Core.Bool.{cond}
-use mathlib.Core.List.{List, [], _∷_, _++_}
+use mathlib.Core.List.{List, [], _∷_, _++_, List·Memᴰ as In}
 use lib.Dec.{ltb}
 use Rattle.text.specs.declared.Number.{Number}
 use Rattle.text.specs.declared.Number.the-variants.{Value, TooLarge, Malformed}
@@ -55,3 +57,16 @@ textFrom (r ∷ l) = line r ++ (10 ∷ textFrom l)
 
 unfoldable pub textOf : List ℕ → List ℕ
 textOf w = textFrom (records (planOf w))
+
+-- `start` records as a written text has them: regions rising from g on, no value 0
+abbrev pub Rising : ℕ → List Start → Type 0
+Rising g [] = Unit
+Rising g (s ∷ l) = (g ≤ s .region) × (s .value ≡ 0 → ⊥) × Rising (suc (s .region)) l
+
+-- plans whose records differ only in the order of their `start` records and in those of value 0
+pub record SameButStarts (P Q : Plan) : Type 0 where
+  pub passes : P .passes ≡ Q .passes
+  pub ranks : P .ranks ≡ Q .ranks
+  pub regions : P .regions ≡ Q .regions
+  pub tasks : P .tasks ≡ Q .tasks
+  pub starts : (s : Start) → (s .value ≡ 0 → ⊥) → In s (P .starts) ↔ In s (Q .starts)
