@@ -23,7 +23,7 @@ module _ {X : Type 0} where
   collect-range zero f = refl
   collect-range (suc n) f = ap (λ l. l ++ f n) (collect-range n f) ∙ sym (flatMap-range f n)
 
-  collect-first : (n : ℕ) (f : ℕ → List X) → collect (suc n) f ≡ f 0 ++ collect n (λ k. f (suc k))
+  pub collect-first : (n : ℕ) (f : ℕ → List X) → collect (suc n) f ≡ f 0 ++ collect n (λ k. f (suc k))
   unfolding collect
   collect-first zero f = sym (append-nil (f 0))
   collect-first (suc n) f = ap (λ (l : List X). l ++ f (suc n)) (collect-first n f) ∙ append-assoc (f 0) (collect n (λ k. f (suc k))) (f (suc n))

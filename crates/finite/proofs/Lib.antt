@@ -10,3 +10,4 @@ pub mod Replaced
 pub mod Sums
 pub mod Collect
 pub mod Bits
+pub mod Puts

@@ -1,3 +1,4 @@
 pub mod Below
 pub mod Lists
 pub mod Update
+pub mod Put

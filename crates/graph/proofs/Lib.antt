@@ -1,4 +1,3 @@
-pub mod Adding
 pub mod Small
 pub mod Lookup
 pub mod Accesses

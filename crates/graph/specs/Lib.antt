@@ -1,4 +1,3 @@
 pub mod Table
 pub mod Answers
 pub mod Laws
-pub mod Added

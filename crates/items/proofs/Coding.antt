@@ -6,8 +6,9 @@ use mathlib.Core.List.{List, [], _∷_, _++_, map, flatMap}
 use native.Mathlib.Omega.{arith}
 use borrow.Author.Tests.{lt-ltb, le-ltb, not-true, not-false}
 use lib.Dec.{eqb}
-use lib.ListN.{length, getD, drop, length-map, take-append-drop, List·getD-append}
+use lib.ListN.{length, getD, drop, length-map, List·getD-append}
 use Rattle.finite.specs.Lists.{gather, collect}
+use Rattle.finite.specs.Put.{Put}
 use Rattle.finite.proofs.Collect.{collect-range, collect-ext, collect-beyond, collect-never, map-collect, flatMap-collect, flatMap-gather, map-flatMap, getD-map}
 use Rattle.body.specs.Body.{Body}
 use Rattle.body.specs.Transfers.{Transfer, transfer, transferred, transfersOf}
@@ -21,7 +22,6 @@ use Rattle.plan.specs.Form.{inForm, wordsOk}
 use Rattle.transfers.specs.Wanted.{wantedAt, wantedMasks}
 use Rattle.plan.proofs.Facts.{Formed, formed}
 use Rattle.transfers.proofs.Masks.{mask-bit, mask-at}
-use Rattle.graph.specs.Added.{Added}
 use Rattle.items.specs.declared.Made.{Made}
 use Rattle.items.specs.Codes.{pairCodes, hasRank, pairIf, maskCodes, accessCodes, taskCodes, allCodes, Coded}
 use Rattle.graph.specs.Table.{codeOf, tableOf, Graph}
@@ -169,9 +169,8 @@ module _ (w masks zeros : List ℕ) (found : Bool) (long : length w ≡ planWord
       }
 
   -- the answer, and what the table holds after the code has filled it
-  pub table-made : (items items′ : List ℕ) (r : ℕ) → Added items items′ 0 r (allCodes w masks (tasksOf w)) →
+  pub table-made : (items items′ : List ℕ) (r : ℕ) → Put (allCodes w masks (tasksOf w)) items r items′ →
       _≡_ {A = Made} (record { formed = true; count = r }) (record { formed = inForm w; count = cond (inForm w) (itemCount (bodyOf w)) 0 })
       × (items′ ≡ cond (inForm w) (tableOf (bodyOf w) ++ drop (itemCount (bodyOf w)) items) items)
   table-made items items′ r p =
-      let n : r ≡ itemCount (bodyOf w) = omega (arith, p .count, codes-counted) in
-      rw (form, ← n) (refl, sym (take-append-drop r items′) ∙ ap₂ _++_ (p .front ∙ codes-are) (p .behind))
+      rw (form, p .count ∙ codes-counted) (refl, p .begins ∙ ap₂ (λ (l : List ℕ) (k : ℕ). l ++ drop k items) codes-are codes-counted)

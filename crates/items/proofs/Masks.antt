@@ -7,15 +7,13 @@ use native.Mathlib.Decide.{decLt}
 use native.Mathlib.Nat.{div-one, zero-div}
 use native.Mathlib.Omega.{arith}
 use borrow.Author.Tests.{eq-eqb, ne-eqb}
-use lib.ListN.{length}
 use lib.Pow.{shr-shr, shr-lt}
 use Rattle.finite.specs.Lists.{collect}
+use Rattle.finite.specs.Put.{Added, RoomAt}
 use Rattle.finite.proofs.Collect.{collect-beyond}
+use Rattle.finite.proofs.Puts.{added-none, room-same, collect-fits, collect-more}
 use Rattle.plan.specs.Limits.{maxRanks}
-use Rattle.plan.specs.Sizes.{maxItems}
-use Rattle.graph.specs.Added.{Added}
 use Rattle.items.specs.Codes.{pairCodes, hasRank, pairIf, maskCodes}
-use Rattle.graph.proofs.Adding.{add-nothing, collect-more, collect-fits}
 
 pub rest-none : (mask : ℕ) → mask ≡ mask / 2 ^ 0
 rest-none mask = sym (div-one mask)
@@ -50,20 +48,22 @@ module _ (mask rank region q : ℕ) where
   pair-out h = rw h
 
 -- the loop of `put_mask`
-module _ (mask rank region : ℕ) (T U : List ℕ) (n m q rest : ℕ) (p : Added T U n m (collect q (pairIf mask rank region))) (e : rest ≡ mask / 2 ^ q) where
-  pub mask-fits : q < maxRanks → rest % 2 ≡ 1 → n + length (maskCodes mask rank region) ≤ maxItems → m + 2 ≤ maxItems
+module _ (mask rank region n : ℕ) (items : List ℕ) (q at : ℕ) (mid : List ℕ) (rest : ℕ)
+    (p : Added (collect q (pairIf mask rank region)) n items at mid) (e : rest ≡ mask / 2 ^ q) where
+  pub mask-fits : q < maxRanks → rest % 2 ≡ 1 → RoomAt (maskCodes mask rank region) n items → RoomAt (pairCodes rank region q) at mid
   unfolding maskCodes
   mask-fits l o h =
-      let s : pairIf mask rank region q ≡ pairCodes rank region q = pair-in mask rank region q (rw e at (eq-eqb (rest % 2) 1 o)) in
-      omega (arith, collect-fits (pairIf mask rank region) T U n m maxRanks q maxItems p l h, ap length s)
+      room-same (pair-in mask rank region q (rw e at (eq-eqb (rest % 2) 1 o))) (collect-fits (pairIf mask rank region) n maxRanks q items at mid h p l)
 
-  pub mask-more : (S : List ℕ) (r : ℕ) → rest % 2 ≡ 1 → Added U S m r (pairCodes rank region q) → Added T S n r (collect (q + 1) (pairIf mask rank region))
-  mask-more S r o k = collect-more (pairIf mask rank region) T U S n m r q p (rw (pair-in mask rank region q (rw e at (eq-eqb (rest % 2) 1 o))) k)
+  pub mask-more : (r : ℕ) (items′ : List ℕ) → rest % 2 ≡ 1 → Added (pairCodes rank region q) at mid r items′ → Added (collect (q + 1) (pairIf mask rank region)) n items r items′
+  mask-more r items′ o k =
+      collect-more (pairIf mask rank region) n q items at mid r items′ p (rw (pair-in mask rank region q (rw e at (eq-eqb (rest % 2) 1 o))) k)
 
-  pub mask-other : (rest % 2 ≡ 1 → ⊥) → Added T U n m (collect (q + 1) (pairIf mask rank region))
-  mask-other o = collect-more (pairIf mask rank region) T U U n m m q p (rw (pair-out mask rank region q (rw e at (ne-eqb (rest % 2) 1 o))) (add-nothing U m))
+  pub mask-other : (rest % 2 ≡ 1 → ⊥) → Added (collect (q + 1) (pairIf mask rank region)) n items at mid
+  mask-other o =
+      collect-more (pairIf mask rank region) n q items at mid at mid p (rw (pair-out mask rank region q (rw e at (ne-eqb (rest % 2) 1 o))) added-none)
 
-  pub mask-done : q ≤ maxRanks → rest ≡ 0 → Added T U n m (maskCodes mask rank region)
+  pub mask-done : q ≤ maxRanks → rest ≡ 0 → Added (maskCodes mask rank region) n items at mid
   unfolding maskCodes
   mask-done l z =
       let gone : (k : ℕ) → q ≤ k → k < maxRanks → pairIf mask rank region k ≡ [] = λ k u v. pair-out mask rank region k (rw (rest-zero mask q k (sym e ∙ z) u)) in

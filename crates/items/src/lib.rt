@@ -1,17 +1,17 @@
 // The item table: for each item its rank, kind, and task or region in one number
 // (graph/specs/Table.antt), put there in the order of the items.
-ghost use Prim.Native.Nat.{_+_, _≤_, _<_};
+ghost use Prim.Native.Nat.{_+_, _<_};
 ghost use mathlib.Core.Path.{_≡_};
 ghost use mathlib.Core.Bool.{cond};
 ghost use mathlib.Core.List.{_∷_, [], _++_};
 ghost use lib.ListN.{length, drop};
 ghost use Rattle.finite.specs.Lists.{collect};
+ghost use Rattle.finite.specs.Put.{Put, Added, RoomAt};
 ghost use Rattle.body.specs.Items.{itemCount};
 ghost use Rattle.plan.specs.Limits.{maxRanks, maxRegions, maxTasks, maxAccesses};
 ghost use Rattle.plan.specs.Sizes.{maxItems};
 ghost use Rattle.plan.specs.Layout.{planWords, rankOf, tasksOf, bodyOf};
 ghost use Rattle.plan.specs.Form.{inForm};
-ghost use Rattle.graph.specs.Added.{Added};
 ghost use Rattle.graph.specs.Table.{tableOf};
 ghost use Rattle.items.specs.Codes.{pairCodes, maskCodes, accessCodes, taskCodes, allCodes, Coded};
 use plan::code::RECEIVE;
@@ -28,10 +28,10 @@ use plan::numbers::narrow_16;
 use plan::numbers::wide_16;
 use transfers::PLAN_MASKS;
 
-// Puts a number behind the first n, and answers how many stand there.
+// Puts a number at n, and answers the place behind it.
 fn put_item(items: &mut [u16], n: usize, code: u64) -> usize
-    requires { ⌜ (length (now items) ≡ maxItems) × (n < maxItems) × (code < 65536) ⌝ }
-    ensures { λ r. ⌜ Added (now (items .entry)) (now (items .exit)) n r (code ∷ []) ⌝ }
+    requires { ⌜ RoomAt (code ∷ []) n (now items) × (code < 65536) ⌝ }
+    ensures { λ r. ⌜ Added (code ∷ []) n (now (items .entry)) r (now (items .exit)) ⌝ }
 {
     items[n] = narrow_16(code);
     n + 1
@@ -39,8 +39,8 @@ fn put_item(items: &mut [u16], n: usize, code: u64) -> usize
 
 // A send on a rank and its receive on rank q.
 fn put_pair(items: &mut [u16], n: usize, rank: u64, region: u64, q: u64) -> usize
-    requires { ⌜ (length (now items) ≡ maxItems) × (n + 2 ≤ maxItems) × (rank < maxRanks) × (region < maxRegions) × (q < maxRanks) ⌝ }
-    ensures { λ r. ⌜ Added (now (items .entry)) (now (items .exit)) n r (pairCodes rank region q) ⌝ }
+    requires { ⌜ RoomAt (pairCodes rank region q) n (now items) × (rank < maxRanks) × (region < maxRegions) × (q < maxRanks) ⌝ }
+    ensures { λ r. ⌜ Added (pairCodes rank region q) n (now (items .entry)) r (now (items .exit)) ⌝ }
 {
     let m = put_item(items, n, item_code(rank, SEND, region));
     put_item(items, m, item_code(q, RECEIVE, region))
@@ -49,9 +49,9 @@ fn put_pair(items: &mut [u16], n: usize, rank: u64, region: u64, q: u64) -> usiz
 // The pairs of the ranks that a mask has, by rank rising.
 fn put_mask(items: &mut [u16], n: usize, mask: u64, rank: u64, region: u64) -> usize
     requires { ⌜
-        (length (now items) ≡ maxItems) × (n + length (maskCodes mask rank region) ≤ maxItems) × (mask < 65536) × (rank < maxRanks) × (region < maxRegions)
+        RoomAt (maskCodes mask rank region) n (now items) × (mask < 65536) × (rank < maxRanks) × (region < maxRegions)
         ⌝ }
-    ensures { λ r. ⌜ Added (now (items .entry)) (now (items .exit)) n r (maskCodes mask rank region) ⌝ }
+    ensures { λ r. ⌜ Added (maskCodes mask rank region) n (now (items .entry)) r (now (items .exit)) ⌝ }
 {
     let mut at = n;
     let mut rest = mask;
@@ -75,10 +75,10 @@ fn put_accesses(
     i: usize,
 ) -> usize
     requires { ⌜
-        (length (now items) ≡ maxItems) × (length (now plan) ≡ planWords) × (i < maxTasks) × (rankOf (now plan) i < maxRanks)
-        × (n + length (collect maxAccesses (accessCodes (now plan) (now masks) i)) ≤ maxItems)
+        RoomAt (collect maxAccesses (accessCodes (now plan) (now masks) i)) n (now items)
+        × (length (now plan) ≡ planWords) × (i < maxTasks) × (rankOf (now plan) i < maxRanks)
         ⌝ }
-    ensures { λ r. ⌜ Added (now (items .entry)) (now (items .exit)) n r (collect maxAccesses (accessCodes (now (plan .entry)) (now (masks .entry)) i)) ⌝ }
+    ensures { λ r. ⌜ Added (collect maxAccesses (accessCodes (now (plan .entry)) (now (masks .entry)) i)) n (now (items .entry)) r (now (items .exit)) ⌝ }
 {
     let rank = rank_of(plan, i);
     let mut at = n;
@@ -95,10 +95,10 @@ fn put_accesses(
 // Task i, and its transfers.
 fn put_task(items: &mut [u16], n: usize, plan: &[u64], masks: &[u16; PLAN_MASKS], i: usize) -> usize
     requires { ⌜
-        (length (now items) ≡ maxItems) × (length (now plan) ≡ planWords) × (i < maxTasks) × (rankOf (now plan) i < maxRanks)
-        × (n + length (taskCodes (now plan) (now masks) i) ≤ maxItems)
+        RoomAt (taskCodes (now plan) (now masks) i) n (now items)
+        × (length (now plan) ≡ planWords) × (i < maxTasks) × (rankOf (now plan) i < maxRanks)
         ⌝ }
-    ensures { λ r. ⌜ Added (now (items .entry)) (now (items .exit)) n r (taskCodes (now (plan .entry)) (now (masks .entry)) i) ⌝ }
+    ensures { λ r. ⌜ Added (taskCodes (now (plan .entry)) (now (masks .entry)) i) n (now (items .entry)) r (now (items .exit)) ⌝ }
 {
     let at = put_item(items, n, item_code(rank_of(plan, i), TASK, as_word(i)));
     put_accesses(items, at, plan, masks, i)
@@ -107,7 +107,7 @@ fn put_task(items: &mut [u16], n: usize, plan: &[u64], masks: &[u16; PLAN_MASKS]
 // The items of all tasks; answers their number.
 fn put_items(items: &mut [u16], plan: &[u64], masks: &[u16; PLAN_MASKS]) -> usize
     requires { ⌜ (length (now items) ≡ maxItems) × Coded (now plan) (now masks) ⌝ }
-    ensures { λ r. ⌜ Added (now (items .entry)) (now (items .exit)) 0 r (allCodes (now (plan .entry)) (now (masks .entry)) (tasksOf (now (plan .entry)))) ⌝ }
+    ensures { λ r. ⌜ Put (allCodes (now (plan .entry)) (now (masks .entry)) (tasksOf (now (plan .entry)))) (now (items .entry)) r (now (items .exit)) ⌝ }
 {
     let tasks = tasks_of(plan);
     let mut at: usize = 0;

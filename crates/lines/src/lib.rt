@@ -1,14 +1,13 @@
-// Lines of output, put at the start of a lent slice. Inside, each function puts its bytes from an
-// offset on and answers the offset behind them.
+// The lines that the run program prints, put at the start of a lent slice. Inside, each function puts
+// its bytes from an offset on and answers the offset behind them.
 ghost use Prim.Native.Nat.{_+_, _*_, _<_, _≤_};
-ghost use mathlib.Core.Path.{_≡_};
 ghost use mathlib.Core.List.{[], _∷_, _++_};
 ghost use lib.ListN.{length};
-ghost use Rattle.reading.specs.Written.{digits};
-ghost use Rattle.text.specs.declared.Number.the-variants.{Value};
+ghost use Rattle.finite.specs.Put.{Put, Room, Added, RoomAt};
 ghost use Rattle.lines.specs.Lines.{field, kindField, stepsLine, refusedLine};
-ghost use Rattle.lines.specs.Put.{Put, Room, tableLines, listLines, wordLines};
-ghost use Rattle.lines.specs.Put.{Added, RoomAt, itemLineAt, edgeLineAt, valueLineAt};
+ghost use Rattle.lines.specs.Tables.{tableLines, listLines, wordLines};
+ghost use Rattle.lines.specs.Tables.{itemLineAt, edgeLineAt, valueLineAt};
+use output::put_bytes;
 use plan::code::SEND;
 use plan::code::TASK;
 use plan::code::item_kind;
@@ -16,68 +15,12 @@ use plan::code::item_rank;
 use plan::numbers::wide_16;
 use plan::numbers::wide_32;
 
-// How many decimal digits a number has: one more than the power of ten that it reaches.
-fn digit_count(n: u64) -> usize
-    ensures { λ r. ⌜ r ≡ length (digits (Value n)) ⌝ }
-{
-    if n < 10 {
-        return 1;
-    }
-    let top = n / 10;
-    let mut low: u64 = 10;
-    let mut k: usize = 1;
-    while low <= top {
-        low *= 10;
-        k += 1;
-    }
-    k + 1
-}
-
-// A number in decimal, its last digit first.
-fn put_digits(out: &mut [u8], at: usize, n: u64) -> usize
-    requires { ⌜ RoomAt (digits (Value n)) at (now out) ⌝ }
-    ensures { λ r. ⌜ Added (digits (Value n)) at (now (out .entry)) r (now (out .exit)) ⌝ }
-{
-    let end = at + digit_count(n);
-    let mut i = end;
-    let mut rest = n;
-    while 10 <= rest {
-        i -= 1;
-        out[i] = 48 + (rest % 10) as u8;
-        rest /= 10;
-    }
-    out[at] = 48 + rest as u8;
-    end
-}
-
-// A number in decimal.
-pub fn put_number(out: &mut [u8], n: u64) -> usize
-    requires { ⌜ Room (digits (Value n)) (now out) ⌝ }
-    ensures { λ r. ⌜ Put (digits (Value n)) (now (out .entry)) r (now (out .exit)) ⌝ }
-{
-    put_digits(out, 0, n)
-}
-
-// Some bytes.
-fn put_bytes(out: &mut [u8], at: usize, bytes: &[u8]) -> usize
-    requires { ⌜ RoomAt (now bytes) at (now out) ⌝ }
-    ensures { λ r. ⌜ Added (now (bytes .entry)) at (now (out .entry)) r (now (out .exit)) ⌝ }
-{
-    let mut i = 0;
-    while i < bytes.len() {
-        out[at + i] = bytes[i];
-        i += 1;
-    }
-    at + i
-}
-
 // A space and a number.
 fn put_field(out: &mut [u8], at: usize, n: u64) -> usize
     requires { ⌜ RoomAt (field n) at (now out) ⌝ }
     ensures { λ r. ⌜ Added (field n) at (now (out .entry)) r (now (out .exit)) ⌝ }
 {
-    out[at] = b' ';
-    put_digits(out, at + 1, n)
+    output::put_field(out, at, b' ', n)
 }
 
 // The last field of a line, and the end of the line.
@@ -85,9 +28,7 @@ fn put_last(out: &mut [u8], at: usize, n: u64) -> usize
     requires { ⌜ RoomAt (field n ++ (10 ∷ [])) at (now out) ⌝ }
     ensures { λ r. ⌜ Added (field n ++ (10 ∷ [])) at (now (out .entry)) r (now (out .exit)) ⌝ }
 {
-    let end = put_field(out, at, n);
-    out[end] = b'\n';
-    end + 1
+    output::put_last(out, at, b' ', n)
 }
 
 // The field of a kind.

@@ -4,7 +4,7 @@ use mathlib.Core.Path.{_≡_, ap, subst}
 use mathlib.Core.List.{List, _++_}
 use native.Mathlib.Omega.{arith}
 use lib.ListN.{length, take, drop, length-append}
-use Rattle.lines.specs.Put.{Put, Room}
+use Rattle.finite.specs.Put.{Put, Room}
 
 -- by another name
 pub put-as : {X Y out out′ : List ℕ} {r : ℕ} → X ≡ Y → Put X out r out′ → Put Y out r out′

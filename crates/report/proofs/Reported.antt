@@ -7,6 +7,7 @@ use native.Mathlib.Decide.{decLt}
 use native.Mathlib.Omega.{arith}
 use lib.ListN.{length, drop, length-append}
 use lib.Seq.{drop-length}
+use Rattle.finite.specs.Put.{Put}
 use Rattle.plan.specs.Layout.{planWords}
 use Rattle.plan.specs.Form.{inForm}
 use Rattle.reading.specs.Reading.{Reading, readOf, accepted as readTo, refused}
@@ -15,7 +16,6 @@ use Rattle.reader.specs.declared.Answer.{Answer}
 use Rattle.reader.specs.Answer.{answerOf, leftIn, Reads}
 use Rattle.graph.specs.declared.Number.{Number}
 use Rattle.lines.specs.Lines.{refusedLine}
-use Rattle.lines.specs.Put.{Put}
 use Rattle.report.specs.Report.{planLines, readingLines, linesOf, reportBytes, Reports}
 
 -- a plan slice of its size, and what reading makes of it

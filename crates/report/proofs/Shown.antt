@@ -7,6 +7,7 @@ use native.Mathlib.Omega.{arith}
 use borrow.Author.Tests.{le-leb}
 use lib.ListN.{length, getD, take, drop, replicate, length-append, length-map, length-replicate, List·getD-append}
 use Rattle.finite.specs.Lists.{collect}
+use Rattle.finite.specs.Put.{Room}
 use Rattle.finite.proofs.Collect.{collect-ext, flatMap-at, getD-map}
 use Rattle.body.specs.Body.{Body}
 use Rattle.body.specs.Items.{task, itemList, itemCount, itemAt}
@@ -29,7 +30,7 @@ use Rattle.taskiter.specs.declared.Outcome.{Outcome}
 use Rattle.taskiter.specs.Run.{Run}
 use Rattle.taskiter.specs.Shown.{longRun, Shown}
 use Rattle.lines.specs.Lines.{itemLine, edgeLine, stepsLine, valueLine}
-use Rattle.lines.specs.Put.{itemLineAt, edgeLineAt, valueLineAt, Room, tableLines, listLines, wordLines}
+use Rattle.lines.specs.Tables.{itemLineAt, edgeLineAt, valueLineAt, tableLines, listLines, wordLines}
 use Rattle.report.specs.Report.{openState, stepsFrom, graphLines, endLines, mostSteps, planLines, reportBytes}
 use Rattle.report.proofs.Steps.{steps-taken, steps-complete}
 use Rattle.report.proofs.Room.{whole, edges-all, plan-room}

@@ -1,13 +1,15 @@
 -- The numbers of the edges, put row by row, are those of the edge list, and have room.
 use Prim.Native.Nat.{ℕ, _+_, _*_, _≤_, _<_}
 use mathlib.Core.Path.{_≡_, refl, sym, _∙_, ap}
-use mathlib.Core.Bool.{Bool, true, false, cond}
+use mathlib.Core.Bool.{Bool, false, cond}
 use mathlib.Core.List.{List, [], _∷_, flatMap}
 use native.Mathlib.Omega.{arith}
 use borrow.Author.Tests.{eq-eqb, ne-eqb}
 use lib.ListN.{length, getD}
 use Rattle.finite.specs.Lists.{collect}
+use Rattle.finite.specs.Put.{Room, Added, RoomAt}
 use Rattle.finite.proofs.Collect.{collect-range, collect-ext, flatMap-collect, flatMap-gather}
+use Rattle.finite.proofs.Puts.{added-none, added-same, room-same, room-start, collect-fits, collect-more, collect-done}
 use Rattle.body.specs.Body.{Body}
 use Rattle.body.specs.Items.{itemCount}
 use Rattle.edges.specs.Rule.{Triple}
@@ -16,13 +18,10 @@ use Rattle.edges.specs.EdgeList.{edgesFrom, edgeList}
 use Rattle.edges.proofs.Bound.{edges-bounded}
 use Rattle.plan.specs.Sizes.{edgeWords}
 use Rattle.plan.specs.Layout.{bodyOf}
-use Rattle.plan.specs.Form.{inForm}
 use Rattle.graph.specs.Answers.{three}
 use Rattle.graph.specs.Table.{Graph}
-use Rattle.graph.specs.Added.{Added}
 use Rattle.walk.specs.Rows.{Marks}
 use Rattle.walk.specs.Listing.{entryOf, rowOf, numbersFrom}
-use Rattle.graph.proofs.Adding.{add-nothing, collect-more, collect-done, collect-fits}
 use Rattle.walk.proofs.Marked.{edge-marked}
 use Rattle.graph.proofs.Small.{plan-fits, plan-small}
 
@@ -36,20 +35,20 @@ module _ (marks : List ℕ) (a b : ℕ) where
   entry-out h = rw (ne-eqb (getD marks b 0) 1 h)
 
 -- the loop of `put_row`
-module _ (marks : List ℕ) (a : ℕ) (T U : List ℕ) (n m b : ℕ) (p : Added T U n m (collect b (entryOf marks a))) where
-  pub row-fits : (k : ℕ) → b < k → getD marks b 0 ≡ 1 → n + length (rowOf marks k a) ≤ edgeWords → m + 3 ≤ edgeWords
+module _ (marks : List ℕ) (a at : ℕ) (out : List ℕ) (b end : ℕ) (mid : List ℕ) (p : Added (collect b (entryOf marks a)) at out end mid) where
+  pub row-fits : (n : ℕ) → b < n → getD marks b 0 ≡ 1 → RoomAt (rowOf marks n a) at out → RoomAt (three (a, b, distance a b)) end mid
   unfolding rowOf
-  row-fits k l o h = omega (arith, collect-fits (entryOf marks a) T U n m k b edgeWords p l h, ap length (entry-in marks a b o))
+  row-fits n l o h = room-same (entry-in marks a b o) (collect-fits (entryOf marks a) at n b out end mid h p l)
 
-  pub row-more : (S : List ℕ) (r : ℕ) → getD marks b 0 ≡ 1 → Added U S m r (three (a, b, distance a b)) → Added T S n r (collect (b + 1) (entryOf marks a))
-  row-more S r o k = collect-more (entryOf marks a) T U S n m r b p (rw (entry-in marks a b o) k)
+  pub row-more : (r : ℕ) (out′ : List ℕ) → getD marks b 0 ≡ 1 → Added (three (a, b, distance a b)) end mid r out′ → Added (collect (b + 1) (entryOf marks a)) at out r out′
+  row-more r out′ o k = collect-more (entryOf marks a) at b out end mid r out′ p (rw (entry-in marks a b o) k)
 
-  pub row-other : (getD marks b 0 ≡ 1 → ⊥) → Added T U n m (collect (b + 1) (entryOf marks a))
-  row-other o = collect-more (entryOf marks a) T U U n m m b p (rw (entry-out marks a b o) (add-nothing U m))
+  pub row-other : (getD marks b 0 ≡ 1 → ⊥) → Added (collect (b + 1) (entryOf marks a)) at out end mid
+  row-other o = collect-more (entryOf marks a) at b out end mid end mid p (rw (entry-out marks a b o) added-none)
 
-  pub row-done : (k : ℕ) → k ≤ b → b ≤ k → Added T U n m (rowOf marks k a)
+  pub row-done : (n : ℕ) → n ≤ b → b ≤ n → Added (rowOf marks n a) at out end mid
   unfolding rowOf
-  row-done k u v = collect-done (entryOf marks a) T U n m k b p u v
+  row-done n = collect-done (entryOf marks a) at n b out end mid p
 
 pub row-numbers : (B : Body) (n a : ℕ) (marks : List ℕ) → Marks B n a false marks → n ≡ itemCount B → rowOf marks n a ≡ numbersFrom B a
 unfolding rowOf entryOf numbersFrom edgesFrom
@@ -61,11 +60,11 @@ row-numbers B n a marks M e =
 
 -- `put_from`
 module _ (w items : List ℕ) (n a : ℕ) (marks : List ℕ) (G : Graph w items n) (M : Marks (bodyOf w) n a false marks) where
-  pub from-fits : (m : ℕ) → m + length (numbersFrom (bodyOf w) a) ≤ edgeWords → m + length (rowOf marks n a) ≤ edgeWords
-  from-fits m h = omega (arith, ap length (row-numbers (bodyOf w) n a marks M (G .count)))
+  pub from-fits : (at : ℕ) (out : List ℕ) → RoomAt (numbersFrom (bodyOf w) a) at out → RoomAt (rowOf marks n a) at out
+  from-fits at out h = room-same (sym (row-numbers (bodyOf w) n a marks M (G .count))) h
 
-  pub from-added : (T U : List ℕ) (m r : ℕ) → Added T U m r (rowOf marks n a) → Added T U m r (numbersFrom (bodyOf w) a)
-  from-added T U m r p = rw (row-numbers (bodyOf w) n a marks M (G .count)) at p
+  pub from-added : (at : ℕ) (out : List ℕ) (r : ℕ) (out′ : List ℕ) → Added (rowOf marks n a) at out r out′ → Added (numbersFrom (bodyOf w) a) at out r out′
+  from-added at out r out′ p = added-same (row-numbers (bodyOf w) n a marks M (G .count)) p
 
 pub numbers-all : (B : Body) (n : ℕ) → n ≡ itemCount B → collect n (numbersFrom B) ≡ flatMap three (edgeList B)
 unfolding numbersFrom edgeList
@@ -78,18 +77,16 @@ unfolding flatMap
 length-three [] = refl
 length-three ((a, b, d) ∷ l) = omega (arith, length-three l)
 
--- all numbers have room
-pub numbers-most : (w : List ℕ) (n : ℕ) → inForm w ≡ true → n ≡ itemCount (bodyOf w) → length (collect n (numbersFrom (bodyOf w))) ≤ edgeWords
-numbers-most w n h e =
-    omega (
-      arith,
-      ap length (numbers-all (bodyOf w) n e),
-      length-three (edgeList (bodyOf w)),
-      edges-bounded (bodyOf w) (plan-fits w h) (plan-small w h),
-    )
+-- all numbers have room, and so have those of the next row
+module _ (w items : List ℕ) (n : ℕ) (out : List ℕ) (G : Graph w items n) (h : edgeWords ≤ length out) where
+  pub numbers-room : Room (collect n (numbersFrom (bodyOf w))) out
+  numbers-room =
+      omega (
+        arith,
+        ap length (numbers-all (bodyOf w) n (G .count)),
+        length-three (edgeList (bodyOf w)),
+        edges-bounded (bodyOf w) (plan-fits w (G .formed)) (plan-small w (G .formed)),
+      )
 
--- and so have those of the next row
-pub numbers-fit : (w items : List ℕ) (n a : ℕ) (T U : List ℕ) (m : ℕ) → Graph w items n → Added T U 0 m (collect a (numbersFrom (bodyOf w))) → a < n
-    → m + length (numbersFrom (bodyOf w) a) ≤ edgeWords
-numbers-fit w items n a T U m G p l =
-    collect-fits (numbersFrom (bodyOf w)) T U 0 m n a edgeWords p l (omega (arith, numbers-most w n (G .formed) (G .count)))
+  pub numbers-fit : (a at : ℕ) (mid : List ℕ) → Added (collect a (numbersFrom (bodyOf w))) 0 out at mid → a < n → RoomAt (numbersFrom (bodyOf w) a) at mid
+  numbers-fit a at mid = collect-fits (numbersFrom (bodyOf w)) 0 n a out at mid (room-start numbers-room)

@@ -4,12 +4,12 @@ ghost use mathlib.Core.Path.{_≡_};
 ghost use mathlib.Core.Bool.{false};
 ghost use lib.ListN.{length};
 ghost use Rattle.finite.specs.Lists.{collect};
+ghost use Rattle.finite.specs.Put.{Put, Added, RoomAt};
 ghost use Rattle.edges.specs.Tests.{distance};
 ghost use Rattle.plan.specs.Sizes.{maxItems, edgeWords};
 ghost use Rattle.plan.specs.Layout.{bodyOf};
 ghost use Rattle.graph.specs.Answers.{three};
 ghost use Rattle.graph.specs.Table.{Graph};
-ghost use Rattle.graph.specs.Added.{Added};
 ghost use Rattle.walk.specs.Listing.{rowOf, numbersFrom};
 use crate::rows::mark_row;
 use plan::numbers::narrow_32;
@@ -25,11 +25,10 @@ fn distance_of(a: usize, b: usize) -> u32
     1
 }
 
-// Puts the edge from a to b behind the first `at` numbers, and answers how many numbers stand
-// there.
+// Puts the edge from a to b from an offset on, and answers the offset behind it.
 fn put_edge(edges: &mut [u32], at: usize, a: usize, b: usize) -> usize
-    requires { ⌜ (edgeWords ≤ length (now edges)) × (at + 3 ≤ edgeWords) × (a < maxItems) × (b < maxItems) ⌝ }
-    ensures { λ r. ⌜ Added (now (edges .entry)) (now (edges .exit)) at r (three (a, b, distance a b)) ⌝ }
+    requires { ⌜ RoomAt (three (a, b, distance a b)) at (now edges) × (a < maxItems) × (b < maxItems) ⌝ }
+    ensures { λ r. ⌜ Added (three (a, b, distance a b)) at (now (edges .entry)) r (now (edges .exit)) ⌝ }
 {
     edges[at] = narrow_32(a);
     edges[at + 1] = narrow_32(b);
@@ -39,10 +38,8 @@ fn put_edge(edges: &mut [u32], at: usize, a: usize, b: usize) -> usize
 
 // Puts the edges from item a to the items that are marked.
 fn put_row(edges: &mut [u32], at: usize, marks: &[u8; MAX_ITEMS], n: usize, a: usize) -> usize
-    requires { ⌜
-        (edgeWords ≤ length (now edges)) × (at + length (rowOf (now marks) n a) ≤ edgeWords) × (n ≤ maxItems) × (a < maxItems)
-        ⌝ }
-    ensures { λ r. ⌜ Added (now (edges .entry)) (now (edges .exit)) at r (rowOf (now (marks .entry)) n a) ⌝ }
+    requires { ⌜ RoomAt (rowOf (now marks) n a) at (now edges) × (n ≤ maxItems) × (a < maxItems) ⌝ }
+    ensures { λ r. ⌜ Added (rowOf (now (marks .entry)) n a) at (now (edges .entry)) r (now (edges .exit)) ⌝ }
 {
     let mut end = at;
     let mut b: usize = 0;
@@ -65,10 +62,9 @@ fn put_from(
     at: usize,
 ) -> usize
     requires { ⌜
-        Graph (now plan) (now items) n × (a < n) × (edgeWords ≤ length (now edges))
-        × (at + length (numbersFrom (bodyOf (now plan)) a) ≤ edgeWords)
+        Graph (now plan) (now items) n × (a < n) × RoomAt (numbersFrom (bodyOf (now plan)) a) at (now edges)
         ⌝ }
-    ensures { λ r. ⌜ Added (now (edges .entry)) (now (edges .exit)) at r (numbersFrom (bodyOf (now (plan .entry))) a) ⌝ }
+    ensures { λ r. ⌜ Added (numbersFrom (bodyOf (now (plan .entry))) a) at (now (edges .entry)) r (now (edges .exit)) ⌝ }
 {
     let mut marks = [0u8; MAX_ITEMS];
     mark_row(plan, items, n, a, false, &mut marks);
@@ -78,7 +74,7 @@ fn put_from(
 // Puts all edges; answers how many numbers they are.
 pub fn put_edges(plan: &[u64], items: &[u16; MAX_ITEMS], n: usize, edges: &mut [u32]) -> usize
     requires { ⌜ Graph (now plan) (now items) n × (edgeWords ≤ length (now edges)) ⌝ }
-    ensures { λ r. ⌜ Added (now (edges .entry)) (now (edges .exit)) 0 r (collect n (numbersFrom (bodyOf (now (plan .entry))))) ⌝ }
+    ensures { λ r. ⌜ Put (collect n (numbersFrom (bodyOf (now (plan .entry))))) (now (edges .entry)) r (now (edges .exit)) ⌝ }
 {
     let mut at: usize = 0;
     let mut a: usize = 0;

@@ -1,16 +1,16 @@
 use Prim.Native.Nat.{_-_, _≤_}
 use borrow.Author.Needs.{needs}
 use Rattle.finite.specs.Lists.{collect}
+use Rattle.finite.specs.Put.{Added}
+use Rattle.finite.proofs.Puts.{collect-none, collect-done}
 use Rattle.plan.specs.Limits.{maxAccesses}
-use Rattle.graph.specs.Added.{Added}
 use Rattle.items.specs.Codes.{accessCodes}
-use Rattle.graph.proofs.Adding.{collect-none, collect-done}
 use Rattle.items.proofs.Tasks.{access-fits, access-more}
 use Rattle.items.proofs.put_accesses.Statement.{statement}
 use Rattle.items.proofs.put_accesses.Tie as tie
 
 abbrev Inv-loop : tie.InvT-loop
-Inv-loop items₀ n plan masks i rank at₀ a₀ items at a = (a ≤ maxAccesses) × Added items₀ items n at (collect a (accessCodes plan masks i))
+Inv-loop items₀ n plan masks i rank at₀ a₀ items at a = (a ≤ maxAccesses) × Added (collect a (accessCodes plan masks i)) n items₀ at items
 
 abbrev μ-loop : tie.MeasureT-loop
 μ-loop items₀ n plan masks i rank at₀ a₀ items at a = maxAccesses - a
@@ -21,7 +21,6 @@ loop-holds c = search (needs, collect-none)
 put-mask-requires : tie.Need-put-mask-requires Inv-loop μ-loop
 put-mask-requires c κs =
     let turn = c .before .before .before .before .before .before .before .loop in (
-      search needs,
       access-fits _ _ _ _ _ _ _ _ _ _ _ (turn .inv .1) (search needs) (search needs) (search needs) (search needs) (search needs),
       search needs,
       search needs,

@@ -1,15 +1,15 @@
 use Prim.Native.Nat.{_-_, _≤_}
 use borrow.Author.Needs.{needs}
 use Rattle.finite.specs.Lists.{collect}
-use Rattle.graph.specs.Added.{Added}
+use Rattle.finite.specs.Put.{Added}
+use Rattle.finite.proofs.Puts.{collect-none, collect-more}
 use Rattle.items.specs.Codes.{taskCodes}
-use Rattle.graph.proofs.Adding.{collect-none, collect-more}
 use Rattle.items.proofs.Tasks.{task-rank, tasks-fit, tasks-done}
 use Rattle.items.proofs.put_items.Statement.{statement}
 use Rattle.items.proofs.put_items.Tie as tie
 
 abbrev Inv-loop : tie.InvT-loop
-Inv-loop items₀ plan masks tasks at₀ i₀ items at i = (i ≤ tasks) × Added items₀ items 0 at (collect i (taskCodes plan masks))
+Inv-loop items₀ plan masks tasks at₀ i₀ items at i = (i ≤ tasks) × Added (collect i (taskCodes plan masks)) 0 items₀ at items
 
 abbrev μ-loop : tie.MeasureT-loop
 μ-loop items₀ plan masks tasks at₀ i₀ items at i = tasks - i

@@ -4,15 +4,15 @@ use mathlib.Core.Logic.{⊎-elim}
 use native.Mathlib.Omega.{arith}
 use borrow.Author.Needs.{needs}
 use Rattle.finite.specs.Lists.{collect}
-use Rattle.graph.specs.Added.{Added}
+use Rattle.finite.specs.Put.{Added}
+use Rattle.finite.proofs.Puts.{collect-none}
 use Rattle.items.specs.Codes.{pairIf}
-use Rattle.graph.proofs.Adding.{collect-none}
 use Rattle.items.proofs.Masks.{rest-none, rest-more, rest-below, mask-fits, mask-more, mask-other, mask-done}
 use Rattle.items.proofs.put_mask.Statement.{statement}
 use Rattle.items.proofs.put_mask.Tie as tie
 
 abbrev Inv-loop : tie.InvT-loop
-Inv-loop items₀ n mask rank region at₀ rest₀ q₀ items at rest q = (q ≤ 16) × (rest ≡ mask / 2 ^ q) × Added items₀ items n at (collect q (pairIf mask rank region))
+Inv-loop items₀ n mask rank region at₀ rest₀ q₀ items at rest q = (q ≤ 16) × (rest ≡ mask / 2 ^ q) × Added (collect q (pairIf mask rank region)) n items₀ at items
 
 abbrev μ-loop : tie.MeasureT-loop
 μ-loop items₀ n mask rank region at₀ rest₀ q₀ items at rest q = rest

@@ -1,10 +1,10 @@
 use borrow.Author.Needs.{needs}
-use Rattle.graph.proofs.Adding.{add-pair}
+use Rattle.finite.proofs.Puts.{added-pair}
 use Rattle.items.proofs.put_pair.Statement.{statement}
 use Rattle.items.proofs.put_pair.Tie as tie
 
 returns : tie.Need-returns
-returns c = search (needs, add-pair)
+returns c = search (needs, added-pair)
 
 pub put-pair-spec : {M : Type 1} → statement M
 put-pair-spec =

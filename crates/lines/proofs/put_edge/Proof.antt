@@ -3,9 +3,9 @@ use mathlib.Core.List.{[], _∷_, _++_}
 use mathlib.Core.Path.{sym, ap}
 use native.Mathlib.Omega.{arith}
 use borrow.Author.Needs.{needs}
+use Rattle.finite.proofs.Puts.{added-append, added-same, room-first, room-rest, room-same}
 use Rattle.lines.specs.Lines.{field, edgeLine}
-use Rattle.lines.specs.Put.{edgeLineAt}
-use Rattle.lines.proofs.Puts.{added-append, added-same, room-first, room-rest, room-same}
+use Rattle.lines.specs.Tables.{edgeLineAt}
 use Rattle.lines.proofs.put_edge.Statement.{statement}
 use Rattle.lines.proofs.put_edge.Tie as tie
 

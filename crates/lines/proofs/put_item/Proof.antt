@@ -3,10 +3,10 @@ use mathlib.Core.List.{[], _∷_, _++_}
 use mathlib.Core.Path.{sym, _∙_, ap}
 use native.Mathlib.Omega.{arith}
 use borrow.Author.Needs.{needs}
+use Rattle.finite.proofs.Puts.{added-append, added-same, room-first, room-rest, room-same}
 use Rattle.plan.specs.Code.{codeKind, codeRank}
 use Rattle.lines.specs.Lines.{field, kindField, itemLine}
-use Rattle.lines.specs.Put.{itemLineAt}
-use Rattle.lines.proofs.Puts.{added-append, added-same, room-first, room-rest, room-same}
+use Rattle.lines.specs.Tables.{itemLineAt}
 use Rattle.lines.proofs.put_item.Statement.{statement}
 use Rattle.lines.proofs.put_item.Tie as tie
 

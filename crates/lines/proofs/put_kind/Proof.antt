@@ -1,7 +1,7 @@
 use mathlib.Core.Path.{sym, ap}
 use borrow.Author.Needs.{needs}
+use Rattle.finite.proofs.Puts.{added-same, room-same}
 use Rattle.lines.specs.Lines.{kindField}
-use Rattle.lines.proofs.Puts.{added-same, room-same}
 use Rattle.lines.proofs.Fields.{kind-other}
 use Rattle.lines.proofs.put_kind.Statement.{statement}
 use Rattle.lines.proofs.put_kind.Tie as tie

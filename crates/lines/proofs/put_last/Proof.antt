@@ -1,26 +1,17 @@
-use mathlib.Core.List.{[], _∷_}
-use native.Mathlib.Omega.{arith}
+use mathlib.Core.List.{List, [], _∷_, _++_}
+use mathlib.Core.Path.{sym, ap}
+use Prim.Native.Nat.{ℕ}
 use borrow.Author.Needs.{needs}
-use Rattle.lines.specs.Lines.{field}
-use Rattle.lines.specs.Put.{RoomAt}
-use Rattle.lines.proofs.Puts.{added-append, added-one, room-first, room-rest}
+use Rattle.finite.proofs.Puts.{added-same, room-same}
+use Rattle.lines.proofs.Fields.{field-digits}
 use Rattle.lines.proofs.put_last.Statement.{statement}
 use Rattle.lines.proofs.put_last.Tie as tie
 
-put-field-requires : tie.Need-put-field-requires
-put-field-requires c κs = let s = c .before .before in room-first (field (s .args .n)) (10 ∷ []) (s .pre)
-
-slice-write-out : tie.Need-slice-write-out
-slice-write-out c =
-    let f = c .before .before .put-field in
-    let h : RoomAt (10 ∷ []) (f .result) (f .last .0) = room-rest (f .ensures) (c .before .before .before .before .before .pre) in
-    omega arith
-
-add-result : tie.Need-add-result
-add-result c = omega (arith, slice-write-out c)
+put-last-requires : tie.Need-put-last-requires
+put-last-requires c κs = room-same (ap (λ (s : List ℕ). s ++ (10 ∷ [])) (field-digits _)) (c .before .before .pre)
 
 returns : tie.Need-returns
-returns c = added-append (c .before .before .put-field .ensures) (added-one 10 _ _)
+returns c = added-same (ap (λ (s : List ℕ). s ++ (10 ∷ [])) (sym (field-digits _))) (c .before .before .put-last .ensures)
 
 pub put-last-spec : {M : Type 1} → statement M
-put-last-spec = tie.close (tie.spec put-field-requires slice-write-out add-result (λ c. search needs) returns)
+put-last-spec = tie.close (tie.spec put-last-requires (λ c. search needs) returns)

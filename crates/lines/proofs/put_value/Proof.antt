@@ -1,8 +1,8 @@
 use native.Mathlib.Omega.{arith}
 use borrow.Author.Needs.{needs}
+use Rattle.finite.proofs.Puts.{added-append, room-first, room-rest}
 use Rattle.lines.specs.Lines.{valueLine}
-use Rattle.lines.specs.Put.{valueLineAt}
-use Rattle.lines.proofs.Puts.{added-append, room-first, room-rest}
+use Rattle.lines.specs.Tables.{valueLineAt}
 use Rattle.lines.proofs.put_value.Statement.{statement}
 use Rattle.lines.proofs.put_value.Tie as tie
 

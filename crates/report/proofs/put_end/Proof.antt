@@ -1,9 +1,9 @@
 use native.Mathlib.Omega.{arith}
 use borrow.Author.Needs.{needs}
 use denote.Ref.{now}
+use Rattle.finite.proofs.Puts.{room-behind, put-behind}
 use Rattle.lines.specs.Lines.{stepsLine}
-use Rattle.lines.specs.Put.{wordLines}
-use Rattle.lines.proofs.Puts.{room-behind, put-behind}
+use Rattle.lines.specs.Tables.{wordLines}
 use Rattle.report.proofs.Joined.{part-start, room-first, sum-most}
 use Rattle.report.proofs.put_end.Statement.{statement}
 use Rattle.report.proofs.put_end.Tie as tie

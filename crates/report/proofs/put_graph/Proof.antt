@@ -1,8 +1,8 @@
 use native.Mathlib.Omega.{arith}
 use borrow.Author.Needs.{needs}
 use denote.Ref.{now}
-use Rattle.lines.specs.Put.{tableLines, listLines}
-use Rattle.lines.proofs.Puts.{room-behind, put-behind}
+use Rattle.finite.proofs.Puts.{room-behind, put-behind}
+use Rattle.lines.specs.Tables.{tableLines, listLines}
 use Rattle.report.proofs.Joined.{part-start, room-first, sum-most}
 use Rattle.report.proofs.put_graph.Statement.{statement}
 use Rattle.report.proofs.put_graph.Tie as tie

@@ -5,10 +5,11 @@ use native.Mathlib.Omega.{arith}
 use borrow.Author.Needs.{needs}
 use denote.Ref.{now}
 use lib.ListN.{length, length-replicate}
+use Rattle.finite.specs.Put.{Room}
+use Rattle.finite.proofs.Puts.{room-behind, put-behind}
 use Rattle.plan.specs.Sizes.{maxItems, edgeWords, resultWords}
 use Rattle.lines.specs.Lines.{stepsLine}
-use Rattle.lines.specs.Put.{Room, tableLines, listLines, wordLines}
-use Rattle.lines.proofs.Puts.{room-behind, put-behind}
+use Rattle.lines.specs.Tables.{tableLines, listLines, wordLines}
 use Rattle.report.specs.Report.{planLines}
 use Rattle.report.proofs.Shown.{lines-shown}
 use Rattle.report.proofs.Joined.{put-as, part-start, room-first, sum-most}

@@ -1,6 +1,6 @@
 use borrow.Author.Needs.{needs}
 use lib.ListN.{length-set}
-use Rattle.graph.proofs.Adding.{add-three}
+use Rattle.finite.proofs.Puts.{added-three}
 use Rattle.walk.proofs.list.put_edge.Statement.{statement}
 use Rattle.walk.proofs.list.put_edge.Tie as tie
 
@@ -11,7 +11,7 @@ slice-write-edges-3 : tie.Need-slice-write-edges-3
 slice-write-edges-3 c = simp length-set (search needs)
 
 returns : tie.Need-returns
-returns c = add-three _ _ _ _ _ _ _ _ (search needs) (c .before .before .narrow-32 .ensures) (c .before .narrow-322 .ensures) (c .distance-of .ensures)
+returns c = added-three (c .before .before .narrow-32 .ensures) (c .before .narrow-322 .ensures) (c .distance-of .ensures)
 
 pub put-edge-spec : {M : Type 1} → statement M
 put-edge-spec =

@@ -4,7 +4,7 @@ use Rattle.walk.proofs.list.put_from.Statement.{statement}
 use Rattle.walk.proofs.list.put_from.Tie as tie
 
 put-row-requires : tie.Need-put-row-requires
-put-row-requires c κs = (search needs, search (needs, from-fits), search needs, search needs)
+put-row-requires c κs = search (needs, from-fits)
 
 returns : tie.Need-returns
 returns c = search (needs, from-added)

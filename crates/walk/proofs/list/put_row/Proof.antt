@@ -2,15 +2,15 @@ use Prim.Native.Nat.{_-_, _≤_}
 use mathlib.Core.Logic.{⊎-elim}
 use borrow.Author.Needs.{needs}
 use Rattle.finite.specs.Lists.{collect}
-use Rattle.graph.specs.Added.{Added}
+use Rattle.finite.specs.Put.{Added}
+use Rattle.finite.proofs.Puts.{collect-none}
 use Rattle.walk.specs.Listing.{entryOf}
-use Rattle.graph.proofs.Adding.{collect-none}
 use Rattle.walk.proofs.Listing.{row-fits, row-more, row-other, row-done}
 use Rattle.walk.proofs.list.put_row.Statement.{statement}
 use Rattle.walk.proofs.list.put_row.Tie as tie
 
 abbrev Inv-loop : tie.InvT-loop
-Inv-loop edges₀ at marks n a end₀ b₀ edges end b = (b ≤ n) × Added edges₀ edges at end (collect b (entryOf marks a))
+Inv-loop edges₀ at marks n a end₀ b₀ edges end b = (b ≤ n) × Added (collect b (entryOf marks a)) at edges₀ end edges
 
 abbrev μ-loop : tie.MeasureT-loop
 μ-loop edges₀ at marks n a end₀ b₀ edges end b = n - b
@@ -19,7 +19,7 @@ loop-holds : tie.Need-loop-holds Inv-loop μ-loop
 loop-holds c = search (needs, collect-none)
 
 put-edge-requires : tie.Need-put-edge-requires Inv-loop μ-loop
-put-edge-requires c κs = (search needs, search (needs, row-fits), search needs, search needs)
+put-edge-requires c κs = search (needs, row-fits)
 
 loop-again : tie.Need-loop-again Inv-loop μ-loop
 loop-again c = (search needs, ⊎-elim (λ w. rw (w .5, w .6) (search (needs, row-more))) (λ w. rw (w .1, w .2) (search (needs, row-other))) (c .if1 .came))
