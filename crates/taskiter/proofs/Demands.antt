@@ -16,7 +16,7 @@ use Rattle.reading.specs.Plan.{Plan, wordsOf}
 use Rattle.reading.specs.Reading.{Reading, accepted as readTo, refused as notRead, readOf}
 use Rattle.reading.specs.Refusals.{Fit, fit, noFit, fitFrom}
 use Rattle.reading.specs.Laws.{Says, Holds, Answers}
-use Rattle.reading.proofs.Theorems.{laws as reading-laws}
+use Rattle.reading.proofs.Theorems.{laws as reading-laws, text-laws}
 use Rattle.reader.specs.declared.Answer.{Answer}
 use Rattle.reader.specs.Answer.{Reads, answerOf, leftIn}
 use Rattle.graph.specs.Answers.{planBody}
@@ -31,6 +31,7 @@ use Rattle.taskiter.specs.Demands.{FitTold, TextRead, PlanReady, Steps, 
 use Rattle.taskiter.proofs.AnyOrder.{in-any-order}
 use Rattle.taskiter.proofs.Unread.{unread}
 use Rattle.taskiter.proofs.Readiness.{ready-long, ready-form, ready-clear, counts-ready, form-ready, clear-ready}
+use Rattle.taskiter.proofs.Writing.{text-given}
 use Rattle.taskiter.proofs.Giving.{items-given, edges-given}
 use Rattle.taskiter.proofs.Replying.{call-word, word-call, in-words, play-refused, play-given}
 use Rattle.taskiter.proofs.Numbering.{numbers, open-made, result-made, room, held-apart, own-rank}
@@ -101,6 +102,8 @@ demand-1 =
       opening = λ plan counts values. record { short = open-short plan counts values; changes-nothing = open-unchanged plan counts values };
       steps = λ plan s c. record { short = every-short plan s c; changes-nothing = every-unchanged plan s c };
       playing = play-refused;
+      writing = text-given;
+      texts = text-laws;
     }
 
 -- demand 2

@@ -3,6 +3,7 @@ pub mod Unread
 pub mod Readiness
 pub mod Parts
 pub mod Giving
+pub mod Writing
 pub mod Playing
 pub mod Replying
 pub mod Numbering

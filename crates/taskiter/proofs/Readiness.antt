@@ -23,7 +23,7 @@ pub read-formed : (plan : List ℕ) → FromText plan → formedPlan plan ≡ tr
 read-formed plan t = reading-laws .in-form (t .0) (take planWords plan) (t .1)
 
 module _ (plan : List ℕ) (words : (i : ℕ) → getD plan i 0 ≤ maxWord) (long : planWords ≤ length plan) where
-  cut-words : Words (take planWords plan)
+  pub cut-words : Words (take planWords plan)
   cut-words = record { size = length-take-le planWords plan long; fits = each }
     where
       each : (i : ℕ) → at (take planWords plan) i ≤ maxWord

@@ -1,6 +1,6 @@
 -- The three demands on the runtime, stated over the contracts of its functions (src/lib.rt): the definitions that they are equated with, `openOf`,
--- `startOf`, `finishOf`, `resultOf` of the crate steps, and the records that hold of their answers, `Reads`, `ItemsAnswer`, `EdgesAnswer` and
--- `Played`. Proved in proofs/Demands.antt. That nothing undefined is done and every call ends is the check of the code itself.
+-- `startOf`, `finishOf`, `resultOf` of the crate steps, and the records that hold of their answers, `Reads`, `ItemsAnswer`, `EdgesAnswer`,
+-- `Played` and `WriteAnswer`. Proved in proofs/Demands.antt. That nothing undefined is done and every call ends is the check of the code itself.
 use Prim.Native.Nat.{ℕ, suc, _+_, _*_, _≤_, _<_}
 use mathlib.Core.Path.{_≡_}
 use mathlib.Core.Bool.{true, false, cond}
@@ -27,15 +27,16 @@ use Rattle.reading.specs.Written.{records, textFrom}
 use Rattle.reading.specs.Valid.{valid}
 use Rattle.reading.specs.Reading.{readOf, accepted as readTo}
 use Rattle.reading.specs.Refusals.{Fit, fit, noFit, fitFrom}
-use Rattle.reading.specs.Laws.{Says, Holds}
+use Rattle.reading.specs.Laws.{Says, Holds, TextLaws}
 use Rattle.reader.specs.declared.Answer.{Answer}
 use Rattle.reader.specs.Answer.{Reads}
 use Rattle.graph.specs.declared.Number.{Number}
 use Rattle.graph.specs.Answers.{planBody, ItemsAnswer, EdgesAnswer}
+use Rattle.writer.specs.Answer.{WriteAnswer}
 use Rattle.steps.specs.State.{countWords, valueWords, firstFinished, firstHeld, stateOf}
 use Rattle.steps.specs.Answers.{Left, openOf, startOf, finishOf, resultOf}
 use Rattle.steps.specs.Calls.{Call, start, finish, result, isStart, isFinish, isStep, Lent, lent, lentBy, call, play, replies, accepted}
-use Rattle.taskiter.specs.Given.{FromText, ItemsGiven, EdgesGiven}
+use Rattle.taskiter.specs.Given.{FromText, ItemsGiven, EdgesGiven, TextGiven}
 use Rattle.taskiter.specs.Played.{callOf, callsOf, ahead, wordOf, numberOf, callNumbers, Played}
 
 -- Demand 1. Every text, every lent buffer and every call gets an answer; a bad text, and no other, gets a refusal number and a line.
@@ -81,6 +82,10 @@ pub record Demand1 : Type 0 where
   pub steps : (plan : List ℕ) (s : Lent) (c : Call) → CallRefused plan (s .counts) (s .values) (call plan s c)
   pub playing : (plan counts values calls answers : List ℕ) (r : ℕ) (counts′ values′ answers′ : List ℕ) →
       Played plan counts values calls answers r counts′ values′ answers′ → PlayRefused plan counts values calls answers r counts′ values′ answers′
+  pub writing : (plan text : List ℕ) (r : Number) (text′ : List ℕ) → ((i : ℕ) → getD plan i 0 ≤ maxWord) →
+      WriteAnswer plan text r text′ → TextGiven plan text r text′
+  -- what holds of written texts
+  pub texts : TextLaws
 
 -- Demand 2. The graph is the published rule's, and steps are accepted exactly by it.
 

@@ -1,12 +1,13 @@
-// The runtime, as a C host calls it: reading, opening, start, finish and result on lent slices, lists
-// of these, and the graph besides (include/taskiter.h). A call looks at the plan and the state that
-// it is lent, and keeps nothing between calls.
+// The runtime, as a C host calls it: reading, writing, opening, start, finish and result on lent
+// slices, lists of these, and the graph besides (include/taskiter.h). A call looks at the plan and
+// the state that it is lent, and keeps nothing between calls.
 ghost use mathlib.Core.Path.{_≡_};
 ghost use mathlib.Core.Bool.{cond};
 ghost use Rattle.reader.specs.Answer.{Reads};
 ghost use Rattle.graph.specs.Answers.{ItemsAnswer, EdgesAnswer};
 ghost use Rattle.steps.specs.Answers.{openOf, startOf, finishOf, resultOf};
 ghost use Rattle.steps.specs.Calls.{start, finish, lent, call};
+ghost use Rattle.writer.specs.Answer.{WriteAnswer};
 ghost use Rattle.calls.specs.Told.{told, toldOpening};
 ghost use Rattle.taskiter.specs.Played.{callOf, Played};
 ghost use Rattle.taskiter.specs.Shown.{Shown};
@@ -21,6 +22,7 @@ use calls::openings::open_clear;
 use calls::results::result_clear;
 use calls::starts::start_clear;
 use graph::Number;
+use graph::no_number;
 use plan::layout::PLAN_WORDS;
 use plan::numbers::as_word;
 use plan::state::COUNTS;
@@ -31,15 +33,6 @@ use plan::state::RESULTS;
 use plan::state::VALUES;
 use runs::run_clear;
 use runs::shown::put_results;
-
-fn no_number(refusal: u64) -> Number
-    ensures { λ r. ⌜ r ≡ record { refusal = refusal; number = 0 } ⌝ }
-{
-    Number {
-        refusal: refusal,
-        number: 0,
-    }
-}
 
 // Reads a text into a lent plan.
 #[no_mangle]
@@ -79,6 +72,22 @@ pub extern "C" fn taskiter_edges(plan: &[u64], list: &mut [u32]) -> Number
         refusal: 0,
         number: as_word(list_edges(&plan[..PLAN_WORDS], &table, entry.items, list)),
     }
+}
+
+// WriteAnswer a lent plan into a lent text; the number is the text's length.
+#[no_mangle]
+pub extern "C" fn taskiter_write(plan: &[u64], text: &mut [u8]) -> Number
+    ensures { λ r. ⌜ WriteAnswer (now (plan .entry)) (now (text .entry)) r (now (text .exit)) ⌝ }
+{
+    writer::write(plan, text)
+}
+
+// The version of this interface: TASKITER_VERSION of the header.
+#[no_mangle]
+pub extern "C" fn taskiter_version() -> u64
+    ensures { λ r. ⌜ r ≡ 1 ⌝ }
+{
+    1
 }
 
 // Opens a lent state for a plan; answers the refusal, 0 if there is none.

@@ -1,4 +1,4 @@
--- The texts of the table are read to their words, or refused: computed.
+-- The texts of the table are read to their words, refused or written: computed.
 use mathlib.Core.Path.{_≡_, refl}
 use mathlib.Core.List.{flatMap}
 use mathlib.Core.Option.{orElse}
@@ -8,10 +8,11 @@ use Rattle.kernels.specs.Kernels.{suits}
 use Rattle.body.specs.Transfers.{lastBefore, source, wanted, transferred, transfersOf, transferCount}
 use Rattle.text.specs.Numbers.{numberOf, wellFormed}
 use Rattle.text.specs.Words.{keywordOf}
-use Rattle.reading.specs.Plan.{wordsOf}
+use Rattle.reading.specs.Plan.{planOf, wordsOf}
 use Rattle.reading.specs.Reading.{readOf, accepted, refused}
+use Rattle.reading.specs.Written.{digits, textOf}
 use Rattle.text.specs.Ascii.{ascii}
-use Rattle.tried.specs.Table.{example, exampleWords, noPass, readers, readersWords}
+use Rattle.tried.specs.Table.{example, exampleWords, noPass, unordered, readers, readersWords}
 
 pub example-read : readOf example ≡ accepted (exampleWords 2)
 unfolding readOf wordsOf tabulate numberOf wellFormed keywordOf mem suits transferCount transfersOf transferred wanted source lastBefore orElse anyBelow gather range flatMap
@@ -24,6 +25,14 @@ no-pass-read = refl
 pub readers-read : readOf readers ≡ accepted readersWords
 unfolding readOf wordsOf tabulate numberOf wellFormed keywordOf mem suits transferCount transfersOf transferred wanted source lastBefore orElse anyBelow gather range flatMap
 readers-read = refl
+
+pub unordered-read : readOf unordered ≡ accepted (exampleWords 2)
+unfolding readOf wordsOf tabulate numberOf wellFormed keywordOf mem suits transferCount transfersOf transferred wanted source lastBefore orElse anyBelow gather range flatMap
+unordered-read = refl
+
+pub example-written : textOf (exampleWords 2) ≡ example
+unfolding textOf planOf tabulate digits
+example-written = refl
 
 -- K
 pub second-begin : readOf (ascii "loop\t2\t2\t2\nbegin\t0\t1\t1\nbegin\t1\t1\t0\nend\n") ≡ refused 4 3

@@ -28,7 +28,7 @@ use Rattle.steps.specs.Calls.{Call, start, finish, result, isStep, Lent, lentBy
 use Rattle.taskiter.specs.Demands.{of-start, of-finish, Ready, Opened, OpenMade, Steps, AtEnd, InAnyOrder, Demands}
 use Rattle.taskiter.proofs.Demands.{demands}
 use Rattle.tried.specs.Table.{example, exampleWords, noPass, Fresh, Accepts, after, Table}
-use Rattle.tried.proofs.Read.{example-read, no-pass-read, readers-read, second-begin, named-twice}
+use Rattle.tried.proofs.Read.{example-read, no-pass-read, readers-read, unordered-read, example-written, second-begin, named-twice}
 use Rattle.tried.proofs.Printed.{printed}
 use Rattle.tried.proofs.Drawn.{example-items, final-two, final-none, first-word}
 
@@ -201,6 +201,8 @@ module _ (D : Demands) where
         printed = printed;
         no-pass-read = no-pass-read;
         readers-read = readers-read;
+        unordered-read = unordered-read;
+        written = example-written;
         case-a = two-ranks-edges;
         case-b = case-b;
         reaches-b = reaches-b;

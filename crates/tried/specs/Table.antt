@@ -1,4 +1,4 @@
--- The starred cases (paper 01, "Tried by hand"), one field a case, over the definitions. Proved in proofs/Table.antt.
+-- The starred cases (paper 01, "Tried by hand"), one field a case, and a case of card 1, over the definitions. Proved in proofs/Table.antt.
 use Prim.Native.Nat.{ℕ, _+_, _-_, _*_, _^_, _≤_}
 use mathlib.Core.Path.{_≡_}
 use mathlib.Core.List.{List, [], _∷_, _++_}
@@ -9,6 +9,7 @@ use Rattle.edges.specs.Rule.{AllEdges}
 use Rattle.plan.specs.Limits.{maxWord}
 use Rattle.plan.specs.Layout.{bodyOf}
 use Rattle.reading.specs.Reading.{readOf, accepted as readTo, refused}
+use Rattle.reading.specs.Written.{textOf}
 use Rattle.steps.specs.State.{countWords, valueWords}
 use Rattle.steps.specs.Answers.{Left, openOf}
 use Rattle.text.specs.Ascii.{ascii}
@@ -23,6 +24,11 @@ example =
 abbrev pub noPass : List ℕ
 noPass =
     ascii "loop\t0\t2\t2\nstart\t0\t5\nbegin\t0\t1\t1\ninout\t0\nend\nbegin\t1\t1\t0\nin\t0\ninout\t1\nend\n"
+
+-- the example with a value of 0 written out and its `start` lines falling
+abbrev pub unordered : List ℕ
+unordered =
+    ascii "loop\t2\t2\t2\nstart\t1\t0\nstart\t0\t5\nbegin\t0\t1\t1\ninout\t0\nend\nbegin\t1\t1\t0\nin\t0\ninout\t1\nend\n"
 
 -- the words that the example is read to with so many passes
 abbrev pub exampleWords : ℕ → List ℕ
@@ -65,6 +71,9 @@ pub record Table : Type 0 where
   pub example-read : readOf example ≡ readTo (exampleWords 2)
   pub no-pass-read : readOf noPass ≡ readTo (exampleWords 0)
   pub readers-read : readOf readers ≡ readTo readersWords
+  -- card 1: the example and the text in another order are read to the same words, and the example is their written text
+  pub unordered-read : readOf unordered ≡ readTo (exampleWords 2)
+  pub written : textOf (exampleWords 2) ≡ example
   -- A the edges that the paper prints
   pub case-a : AllEdges (bodyOf (exampleWords 2)) tenEdges
   -- B the values that it prints, and the 16 steps: some list of calls leads to them, and every list after which a result is accepted
