@@ -138,6 +138,8 @@ static int named_plan(char *text, const char *name) {
         return example_plan(text);
     if (strcmp(name, "largest") == 0)
         return largest_plan(text);
+    if (strcmp(name, "shorter") == 0) /* by one byte than the largest */
+        return with_passes(text, largest_plan(text), 999999);
     if (strcmp(name, "items") == 0)
         return most_items_plan(text, 16);
     if (strcmp(name, "items2") == 0)

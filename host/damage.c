@@ -10,8 +10,7 @@ static struct answer try_any(struct trial *trial, struct rng *rng, enum call cal
     return try_call(trial, call, lengths, draw_asked(rng, trial->shape.formed ? n : MAX_ITEMS));
 }
 
-/* A word in place of another: one near it, one with a bit or a field changed, or any. */
-static uint64_t draw_instead(struct rng *rng, uint64_t word) {
+uint64_t draw_instead(struct rng *rng, uint64_t word) {
     switch (draw_below(rng, 7)) {
     case 0:
         return word + 1;
@@ -30,8 +29,7 @@ static uint64_t draw_instead(struct rng *rng, uint64_t word) {
     }
 }
 
-/* A word of a plan; those that the plan uses more often than others. */
-static int draw_place(struct rng *rng, int tasks) {
+int draw_place(struct rng *rng, int tasks) {
     switch (draw_below(rng, 6)) {
     case 0:
         return draw_below(rng, START_WORDS);
@@ -99,6 +97,7 @@ static void try_damaged_word(struct trial *trial, struct rng *rng) {
     try_all(trial, rng, draw_enough(rng));
     try_items(trial, PLAN_WORDS, ITEM_ROOM);
     try_edges(trial, PLAN_WORDS, EDGE_ROOM);
+    try_write(trial, PLAN_WORDS, TEXT_BYTES);
     trial->lent.plan[at] = trial->expected.plan[at] = kept;
     trial->shape = shape;
 }
@@ -110,13 +109,16 @@ static void try_no_plan(struct trial *trial, struct rng *rng) {
     draw_body(rng, size_of(trial->number), &plan);
     put_plan(trial, &plan);
     try_all(trial, rng, least);
+    try_write(trial, PLAN_WORDS, TEXT_BYTES);
     fill_memory(trial, rng);
     put_word(trial, 0, 1);
     try_all(trial, rng, least);
+    try_write(trial, PLAN_WORDS, TEXT_BYTES);
     memset(trial->lent.plan, 0, sizeof trial->lent.plan);
     memset(trial->expected.plan, 0, sizeof trial->expected.plan);
     put_word(trial, 0, 0);
     try_all(trial, rng, least);
+    try_write(trial, PLAN_WORDS, 0);
 }
 
 void damage_group(struct trial *trial, struct rng *rng) {
@@ -174,6 +176,7 @@ void short_group(struct trial *trial, struct rng *rng) {
     for (int k = 0; k < 4; k++) {
         try_items(trial, draw_length(rng, PLAN_WORDS), draw_length(rng, ITEM_ROOM));
         try_edges(trial, draw_length(rng, PLAN_WORDS), draw_length(rng, EDGE_ROOM));
+        try_write(trial, draw_length(rng, PLAN_WORDS), draw_length(rng, TEXT_BYTES));
     }
     try_read(trial, text, (size_t)draw_below(rng, sizeof text), PLAN_WORDS - 1);
     try_read(trial, text, (size_t)draw_below(rng, sizeof text), draw_length(rng, PLAN_WORDS));

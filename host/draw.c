@@ -3,6 +3,8 @@
 #include <inttypes.h>
 #include <stdio.h>
 
+#include "writing.h"
+
 uint64_t draw(struct rng *rng) {
     uint64_t z = rng->state += 0x9e3779b97f4a7c15u;
     z = (z ^ (z >> 30)) * 0xbf58476d1ce4e5b9u;
@@ -161,6 +163,30 @@ void draw_plan(struct rng *rng, enum size size, struct plan *plan) {
     drop_reads(rng, plan);
 }
 
+/* A word of 20 digits, as many as a word can have. */
+static uint64_t draw_long(struct rng *rng) {
+    return draw(rng) | UINT64_C(3) << 62;
+}
+
+/* The tasks go round up to three ranks. Those of a rank have seven regions of their own; all share
+   the last region, so there are at most 128 transfers. */
+void draw_longest(struct rng *rng, struct plan *plan) {
+    int ranks = 1 + draw_below(rng, 3);
+    *plan = (struct plan){MAX_PASSES, MAX_RANKS, MAX_REGIONS, MAX_TASKS, {0}, {{0}}};
+    for (int g = 0; g < MAX_REGIONS; g++)
+        plan->start[g] = draw_long(rng);
+    for (int i = 0; i < MAX_TASKS; i++) {
+        struct task *task = &plan->task[i];
+        task->rank = 10 + i % ranks;
+        for (int a = 0; a < MAX_ACCESSES - 1; a++)
+            task->access[a] = (struct access){100 + 7 * (i % ranks) + a, INOUT};
+        task->access[MAX_ACCESSES - 1] = (struct access){MAX_REGIONS - 1, INOUT};
+        task->accesses = MAX_ACCESSES;
+        draw_kernel(rng, task);
+        task->constant = draw_long(rng);
+    }
+}
+
 static int put_starts(struct rng *rng, const struct plan *plan, char *text) {
     int order[MAX_REGIONS], at = 0;
     for (int g = 0; g < plan->regions; g++) {
@@ -175,17 +201,7 @@ static int put_starts(struct rng *rng, const struct plan *plan, char *text) {
 }
 
 int draw_text(struct rng *rng, const struct plan *plan, char *text) {
-    static const char *const modes[] = {"in", "out", "inout"};
     int at = sprintf(text, "loop\t%d\t%d\t%d\n", plan->passes, plan->ranks, plan->regions);
     at += put_starts(rng, plan, text + at);
-    for (int i = 0; i < plan->tasks; i++) {
-        const struct task *task = &plan->task[i];
-        at += sprintf(text + at, "begin\t%d\t%d\t%" PRIu64 "\n", task->rank, task->kernel,
-                      task->constant);
-        for (int a = 0; a < task->accesses; a++)
-            at +=
-                sprintf(text + at, "%s\t%d\n", modes[task->access[a].mode], task->access[a].region);
-        at += sprintf(text + at, "end\n");
-    }
-    return at;
+    return at + write_tasks(plan, text + at);
 }

@@ -38,7 +38,11 @@ void drop_reads(struct rng *rng, struct plan *plan);
 /* A plan within every limit. */
 void draw_plan(struct rng *rng, enum size size, struct plan *plan);
 
-/* A text of the plan, with its `start` lines in any order, and answers its length. */
+/* A plan whose text is as long as a written one can be. */
+void draw_longest(struct rng *rng, struct plan *plan);
+
+/* A text of the plan, with its `start` lines in any order and some of value 0 among them, and
+   answers its length. */
 int draw_text(struct rng *rng, const struct plan *plan, char *text);
 
 #endif

@@ -22,6 +22,10 @@ void steps_group(struct trial *trial, struct rng *rng);
    are those of its calls, the results the unrolled loop's. */
 void lists_group(struct trial *trial, struct rng *rng);
 
+/* Plans written as texts: the text is the paper's, and is read to the same plan; slices of any
+   length, and plans with one word changed. */
+void writing_group(struct trial *trial, struct rng *rng);
+
 /* Plans and counts with one word changed, and states that belong to no loop. */
 void damage_group(struct trial *trial, struct rng *rng);
 
@@ -51,8 +55,19 @@ int find_free(struct trial *trial, struct rng *rng, int pick, enum call call);
 /* The word of a call that may well be refused. */
 uint64_t draw_call(struct trial *trial, struct rng *rng);
 
-/* Every call once, and a list of calls, with a count or a word of the plan changed or with slices that may be too short.
-   Leaves the memory as it was. */
+/* Writes the plan, which is in form, and reads the text into memory that is filled anew: the plan
+   is the same. */
+void try_back(struct trial *trial, struct rng *rng);
+
+/* A word of a plan of so many tasks, by its place; those that the plan uses more often than
+   others. */
+int draw_place(struct rng *rng, int tasks);
+
+/* A word in place of another: one near it, one with a bit or a field changed, or any. */
+uint64_t draw_instead(struct rng *rng, uint64_t word);
+
+/* Every call once, and a list of calls, with a count or a word of the plan changed or with slices
+   that may be too short. Leaves the memory as it was. */
 void try_damage(struct trial *trial, struct rng *rng);
 
 #endif

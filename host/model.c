@@ -1,6 +1,9 @@
 #include "model.h"
 
+#include <string.h>
+
 #include "loop.h"
+#include "writing.h"
 
 void make_shape(const uint64_t *words, struct shape *shape) {
     shape->formed = plan_of_words(words, &shape->plan);
@@ -161,4 +164,18 @@ uint64_t model_play(const struct shape *shape, struct memory *memory, struct len
         answers[2 * k + 1] = answer.word;
     }
     return 0;
+}
+
+struct answer model_write(const struct shape *shape, size_t plan_length, uint8_t *text,
+                          size_t text_length) {
+    static char written[TEXT_BYTES + 1];
+    if (plan_length < PLAN_WORDS)
+        return (struct answer){11, 0};
+    if (!shape->formed)
+        return (struct answer){12, 0};
+    size_t length = (size_t)write_text(&shape->plan, written);
+    if (text_length < length)
+        return (struct answer){19, 0};
+    memcpy(text, written, length);
+    return (struct answer){0, length};
 }

@@ -50,6 +50,10 @@ uint64_t model_play(const struct shape *shape, struct memory *memory, struct len
                     const uint64_t *calls, size_t number, uint64_t *answers,
                     size_t answers_length);
 
+/* Writes a plan of this shape into the text. The word is the length. */
+struct answer model_write(const struct shape *shape, size_t plan_length, uint8_t *text,
+                          size_t text_length);
+
 /* Whether every item has finished every pass. */
 bool complete(const struct shape *shape, const struct memory *memory);
 

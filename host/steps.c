@@ -325,6 +325,22 @@ static void graph_bare(struct trial *trial, struct slices slices) {
     free(edges);
 }
 
+/* Writes the plan into a block that its text just fills, and into one that is a byte too short. */
+static void write_bare(struct trial *trial, struct slices slices) {
+    static char text[TEXT_BYTES + 1];
+    size_t length = (size_t)write_text(&trial->shape.plan, text);
+    uint8_t *whole = room(length), *less = room(length - 1);
+    taskiter_number n = taskiter_write(slices.plan, PLAN_WORDS, whole, length),
+                    m = taskiter_write(slices.plan, PLAN_WORDS, less, length - 1);
+    count_answer(trial, n.refusal);
+    count_answer(trial, m.refusal);
+    if (n.refusal != 0 || n.number != length || memcmp(whole, text, length) != 0 ||
+        m.refusal != 19 || m.number != 0)
+        differ(trial, "writing gives another text, or a short slice is accepted");
+    free(whole);
+    free(less);
+}
+
 /* Slices too short, with nothing in them and nothing behind them. */
 static void try_short_bare(struct trial *trial, struct lengths lengths) {
     struct slices slices = bare_slices(lengths);
@@ -332,6 +348,20 @@ static void try_short_bare(struct trial *trial, struct lengths lengths) {
         compare_answer(trial, (enum call)call, 0, (struct answer){11, 0},
                        runtime_call((enum call)call, slices, lengths, 0));
     free_slices(slices);
+}
+
+/* A text, a list or answers that are NULL, and are said to have elements: 11. */
+static void try_null_long(struct trial *trial, struct slices s) {
+    static const uint64_t calls[1] = {TASKITER_CALL_RESULT(0)};
+    uint64_t answers[2] = {0, 0};
+    if (taskiter_read(NULL, 1, s.plan, PLAN_WORDS).refusal != 11 ||
+        taskiter_write(s.plan, PLAN_WORDS, NULL, 1).refusal != 11)
+        differ(trial, "a text that is NULL and has a byte is not refused with 11");
+    if (taskiter_play(s.plan, PLAN_WORDS, s.counts, COUNTS, s.values, VALUES, NULL, 1, answers,
+                      2) != 11 ||
+        taskiter_play(s.plan, PLAN_WORDS, s.counts, COUNTS, s.values, VALUES, calls, 1, NULL, 2) !=
+            11)
+        differ(trial, "a list or answers that are NULL and have elements are not refused with 11");
 }
 
 /* Slices that are NULL, each alone and all: 11. */
@@ -355,6 +385,11 @@ static void try_null(struct trial *trial, struct slices all) {
                     m = taskiter_edges(all.plan, PLAN_WORDS, NULL, 0);
     if (n.refusal != 11 || m.refusal != 11 || taskiter_read(NULL, 0, NULL, 0).refusal != 11)
         differ(trial, "items, edges or reading is accepted with a slice that is NULL");
+    if (taskiter_write(NULL, 0, NULL, 0).refusal != 11 ||
+        taskiter_write(all.plan, PLAN_WORDS - 1, NULL, 0).refusal != 11 ||
+        taskiter_write(all.plan, PLAN_WORDS, NULL, 0).refusal != 19)
+        differ(trial, "writing is accepted or refused otherwise with a slice that is NULL");
+    try_null_long(trial, all);
 }
 
 void bare_group(struct trial *trial, struct rng *rng) {
@@ -362,6 +397,7 @@ void bare_group(struct trial *trial, struct rng *rng) {
     struct slices slices = bare_slices(least);
     read_bare(trial, rng, slices);
     graph_bare(trial, slices);
+    write_bare(trial, slices);
     play_bare(trial, rng, slices);
     try_null(trial, slices);
     free_slices(slices);

@@ -1,20 +1,22 @@
 /* The test program that the paper asks for ("Tying down the contracts", item 4): plays random plans
    in random orders against the unrolled loop, runs the cases that the paper lists without a star,
    and compares every call with a model made from the paper alone: the answer, the items, the edges,
-   and every byte of the lent slices and of the guards around them.
+   the written text, and every byte of the lent slices and of the guards around them.
 
    stress [SEED [PLANS]] prints a line a group, and one for all: its plans and calls, how many were
    accepted, and how often each refusal was given. Exit status 0 where nothing differs and each
-   refusal was met, 1 where not.
+   refusal was met, 1 where not, and where the runtime has another version than its header.
 
-   stress --control answer|word|edge|line|reply [SEED [PLANS]] is a run in which one answer, one
-   word of the lent state after a call, one edge, one line number or one word of a list's answers is
-   changed before it is compared. It has to end with the difference reported and status 1. The
-   status is 2 where it is not reported. */
+   stress --control answer|word|edge|line|reply|byte [SEED [PLANS]] is a run in which one answer,
+   one word of the lent state after a call, one edge, one line number, one word of a list's answers
+   or one byte of a written text is changed before it is compared. It has to end with the difference
+   reported and status 1. The status is 2 where it is not reported. */
+#include <inttypes.h>
 #include <stdio.h>
 #include <stdlib.h>
 #include <string.h>
 
+#include "../include/taskiter.h"
 #include "groups.h"
 
 enum { DEFAULT_PLANS = 1000, MOST_PLANS = 1000000 };
@@ -66,6 +68,7 @@ static void run_groups(struct count *all) {
     run_group("graph", graph_group, all->each, all);
     run_group("steps", steps_group, all->each, all);
     run_group("lists", lists_group, all->each, all);
+    run_group("writing", writing_group, all->each, all);
     run_group("damage", damage_group, all->each, all);
     run_group("short", short_group, all->each, all);
     run_group("bare", bare_group, all->each, all);
@@ -75,8 +78,9 @@ static void run_groups(struct count *all) {
 /* Prepares the control that an argument names. In each plan there are at least so many chances for
    the change; one of them is drawn. Answers false where it names none. */
 static bool take_control(struct count *all, const char *name) {
-    static const char *const names[CHANGES] = {"", "answer", "word", "edge", "line", "reply"};
-    static const int chances[CHANGES] = {0, 150, 150, 1, 16, 16};
+    static const char *const names[CHANGES] = {"",     "answer", "word", "edge",
+                                               "line", "reply",  "byte"};
+    static const int chances[CHANGES] = {0, 150, 150, 1, 16, 16, 8};
     struct control *control = &all->control;
     for (int change = NO_CHANGE + 1; change < CHANGES; change++)
         if (strcmp(name, names[change]) == 0) {
@@ -86,6 +90,14 @@ static bool take_control(struct count *all, const char *name) {
             return true;
         }
     return false;
+}
+
+/* Whether the runtime is of the header's version. */
+static bool same_version(void) {
+    uint64_t version = taskiter_version();
+    if (version != TASKITER_VERSION)
+        printf("the runtime has version %" PRIu64 ", its header %d\n", version, TASKITER_VERSION);
+    return version == TASKITER_VERSION;
 }
 
 /* Whether each refusal was met. */
@@ -108,9 +120,12 @@ int main(int argc, char **argv) {
     if (argc > first + 1)
         all.each = strtol(argv[first + 1], NULL, 10);
     if (all.each < 1 || all.each > MOST_PLANS || (controlled && !take_control(&all, argv[2]))) {
-        fprintf(stderr, "usage: stress [--control answer|word|edge|line|reply] [SEED [PLANS]]\n");
+        fprintf(stderr,
+                "usage: stress [--control answer|word|edge|line|reply|byte] [SEED [PLANS]]\n");
         return 2;
     }
+    if (!same_version())
+        return 1;
     run_groups(&all);
     if (controlled) {
         printf("control: %s\n",

@@ -181,8 +181,8 @@ static size_t damage_often(struct rng *rng, uint8_t *text, size_t length) {
     return length;
 }
 
-/* Reads a text into a slice that is long enough and holds anything. An accepted text's plan
-   opens. */
+/* Reads a text into a slice that is long enough and holds anything. An accepted text's plan opens,
+   and is written as a text that is read to it again. */
 static struct reading try_text(struct trial *trial, struct rng *rng, const uint8_t *text,
                                size_t length) {
     size_t enough = PLAN_WORDS + (size_t)(trial->calls % GUARD);
@@ -190,6 +190,8 @@ static struct reading try_text(struct trial *trial, struct rng *rng, const uint8
     struct reading reading = try_read(trial, text, length, enough);
     if (reading.refusal == 0 && try_call(trial, OPEN_CALL, least, 0).refusal != 0)
         differ(trial, "a plan that was read does not open");
+    if (reading.refusal == 0)
+        try_back(trial, rng);
     return reading;
 }
 

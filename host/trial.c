@@ -11,7 +11,8 @@
 _Static_assert(PLAN_WORDS == TASKITER_PLAN_WORDS && COUNTS == TASKITER_COUNTS &&
                    VALUES == TASKITER_VALUES,
                "sizes of docs/LAYOUT.md");
-_Static_assert(ITEM_ROOM == TASKITER_MAX_ITEMS && EDGE_ROOM == TASKITER_EDGE_NUMBERS,
+_Static_assert(ITEM_ROOM == TASKITER_MAX_ITEMS && EDGE_ROOM == TASKITER_EDGE_NUMBERS &&
+                   TEXT_BYTES == TASKITER_TEXT_BYTES,
                "sizes of docs/LAYOUT.md");
 
 const struct lengths least = {PLAN_WORDS, COUNTS, VALUES};
@@ -19,7 +20,7 @@ const struct lengths least = {PLAN_WORDS, COUNTS, VALUES};
 static const char *const call_names[CALLS] = {"open", "start", "finish", "result"};
 
 static const char *const change_names[CHANGES] = {"nothing", "an answer", "a word", "an edge",
-                                                  "a line", "a reply"};
+                                                  "a line",  "a reply",   "a byte"};
 
 void differ(const struct trial *trial, const char *form, ...) {
     va_list rest;
@@ -87,6 +88,15 @@ static void change_reply(struct trial *trial, uint64_t *answers, size_t number) 
         return;
     uint64_t *at = &answers[draw_below(&control->rng, 2 * (int)number)];
     *at = flipped(control, *at, 64);
+}
+
+/* Changes a bit of one byte of a written text, where there is one. */
+static void change_byte(struct trial *trial, uint8_t *text, uint64_t length) {
+    struct control *control = trial->control;
+    if (length == 0 || !makes_change(trial, CHANGED_BYTE))
+        return;
+    uint8_t *at = &text[draw_below(&control->rng, (int)length)];
+    *at = (uint8_t)flipped(control, *at, 8);
 }
 
 void count_answer(struct trial *trial, uint64_t refusal) {
@@ -230,10 +240,26 @@ static void compare_number(struct trial *trial, const char *call, uint64_t refus
     count_answer(trial, refusal);
     if (got.refusal != refusal || got.number != number)
         differ(trial,
-               "%s answer refusal %" PRIu64 ", number %" PRIu64 ", expected %" PRIu64
+               "%s: the answer is refusal %" PRIu64 ", number %" PRIu64 ", expected %" PRIu64
                " and %" PRIu64,
                call, got.refusal, got.number, refusal, number);
     compare_memory(trial, call);
+}
+
+struct written try_write(struct trial *trial, size_t plan_length, size_t text_length) {
+    enum { ROOM = TEXT_BYTES + GUARD };
+    static uint8_t lent[GUARD + ROOM + GUARD], expected[GUARD + ROOM + GUARD];
+    size_t from = GUARD + (size_t)(trial->calls % 8); /* at any place in a word */
+    memset(lent, (int)trial->calls, sizeof lent);
+    memcpy(expected, lent, sizeof lent);
+    struct answer answer = model_write(&trial->shape, plan_length, expected + from, text_length);
+    /* every other empty slice is no pointer at all */
+    uint8_t *text = text_length > 0 || trial->calls % 2 == 0 ? lent + from : NULL;
+    taskiter_number got = taskiter_write(trial->lent.plan, plan_length, text, text_length);
+    change_byte(trial, lent + from, got.number);
+    compare_number(trial, "writing", answer.refusal, answer.word, got);
+    compare_bytes(trial, "the written text", expected, lent, sizeof lent);
+    return (struct written){answer.refusal, (size_t)answer.word, lent + from};
 }
 
 static uint64_t graph_refusal(const struct trial *trial, size_t plan_length, size_t length,

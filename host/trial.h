@@ -7,11 +7,13 @@
 #include "draw.h"
 #include "model.h"
 #include "reading.h"
+#include "writing.h"
 
-enum { LAST_REFUSAL = 18, ITEM_ROOM = MAX_ITEMS, EDGE_ROOM = 3 * MAX_EDGES, LIST_ROOM = 64 };
+enum { LAST_REFUSAL = 19, ITEM_ROOM = MAX_ITEMS, EDGE_ROOM = 3 * MAX_EDGES, LIST_ROOM = 64 };
 
 /* What a control run changes once, between the runtime and the comparison: an answer, a word of the
-   lent state after a call, an edge, the line that reading answers, or a word of a list's answers. */
+   lent state after a call, an edge, the line that reading answers, a word of a list's answers, or a
+   byte of a written text. */
 enum change {
     NO_CHANGE,
     CHANGED_ANSWER,
@@ -19,6 +21,7 @@ enum change {
     CHANGED_EDGE,
     CHANGED_LINE,
     CHANGED_REPLY,
+    CHANGED_BYTE,
     CHANGES
 };
 
@@ -46,6 +49,13 @@ struct slices {
     uint64_t *plan;
     uint32_t *counts;
     uint64_t *values;
+};
+
+/* What writing answers, and the text where it is accepted: it stands until the next is written. */
+struct written {
+    uint64_t refusal;
+    size_t length;
+    const uint8_t *text;
 };
 
 extern const struct lengths least;
@@ -87,6 +97,10 @@ uint64_t try_play(struct trial *trial, struct lengths lengths, const uint64_t *c
    text is accepted. */
 struct reading try_read(struct trial *trial, const uint8_t *text, size_t length,
                         size_t plan_length);
+
+/* Writes the memories' plan into a slice of its own, of at most TEXT_BYTES + GUARD bytes, which is
+   compared whole. */
+struct written try_write(struct trial *trial, size_t plan_length, size_t text_length);
 
 /* Asks for the items and for the edges, into slices of their own that are compared whole. */
 void try_items(struct trial *trial, size_t plan_length, size_t items_length);

@@ -43,8 +43,8 @@
       7  the text ends with a task open                16  start: a source has not finished
       8  the text ends with no task                    17  finish: the item is not running
       9  wrong number of reads for the kernel          18  result: the loop is not complete
-     10  too long, too many tasks, accesses or
-         transfers
+     10  too long, too many tasks, accesses or         19  write: the text slice is too short for
+         transfers                                         this text
 
    docs/HOST.md says what a host does about each, docs/LAYOUT.md what stands where in the slices. */
 #ifndef TASKITER_H
@@ -57,6 +57,13 @@
 extern "C" {
 #endif
 
+/* The version of this header. Numbers, types and layouts change between versions under the same
+   names. So a host asks once, before its other calls, whether taskiter_version answers
+   TASKITER_VERSION: then the runtime that it is linked with has the version of the header that it
+   was compiled with. CHANGELOG.md says what each version changes. */
+#define TASKITER_VERSION 1
+uint64_t taskiter_version(void);
+
 /* A text has at most so many bytes. It has no NUL at its end: one that is counted is a line not in
    form. */
 #define TASKITER_MAX_BYTES 32768
@@ -66,6 +73,10 @@ extern "C" {
 #define TASKITER_PLAN_WORDS 1668 /* uint64_t: 13,344 bytes */
 #define TASKITER_COUNTS 1280     /* TASKITER_COUNT_TYPE: 5,120 bytes */
 #define TASKITER_VALUES 3328     /* uint64_t: 26,624 bytes */
+
+/* The longest text that taskiter_write writes, in bytes. A text slice of this length is enough for
+   every plan; a shorter one is enough for a plan whose text it holds. */
+#define TASKITER_TEXT_BYTES 18726
 
 /* The type of a count of passes. Hosts use this name. */
 #define TASKITER_COUNT_TYPE uint32_t
@@ -104,6 +115,19 @@ typedef struct {
    (NULL, 0). */
 taskiter_reading taskiter_read(const uint8_t *text, size_t text_length, uint64_t *plan,
                                size_t plan_length);
+
+/* Writes the plan as a text, in the written form: the `loop` line, then a `start` line for each
+   region whose value is not 0, regions rising, then the tasks in order with their accesses as the
+   plan holds them. Reading the text gives the same plan. Two plans have the same text exactly if
+   they are the same plan. Accepted texts are read to the same plan exactly if they differ only in
+   the order of their `start` lines and in `start` lines with the value 0.
+
+   Accepted: the text stands at the start of the slice, the number is its length in bytes, and what
+   lies behind it is left as it is. It has no NUL at its end. Refused, in this order, for 11 where
+   the plan is too short, for 12, or for 19 where the slice is shorter than this plan's text; then
+   the number is 0 and nothing is changed. A text slice may be (NULL, 0), and is then too short. */
+taskiter_number taskiter_write(const uint64_t *plan, size_t plan_length, uint8_t *text,
+                               size_t text_length);
 
 /* The items of the plan and the edges between them, for a host that wants to know what a step is,
    where it belongs and what it may free.
@@ -167,18 +191,27 @@ uint64_t taskiter_play(const uint64_t *plan, size_t plan_length, TASKITER_COUNT_
                        size_t answers_length);
 
 /* In C (NULL, 0) is a slice of no elements. The runtime is proved for slices that point somewhere.
-   So each call goes through an inline function that lends an empty text, list or answers a byte of
-   its own, and refuses any other NULL with 11, as the runtime refuses a slice of length 0. The
-   runtime's functions themselves are reached by a name in parentheses, (taskiter_read)(...), by a
-   pointer to a function, and from other languages; there no slice may be NULL. */
+   So each call with slices goes through an inline function. It lends an empty text, list or answers
+   a byte of its own, and refuses any other NULL with 11: a slice that needs elements, or one that
+   is said to have some. The runtime's functions themselves are reached by a name in parentheses,
+   (taskiter_read)(...), by a pointer to a function, and from other languages; there no slice may be
+   NULL. */
 static inline taskiter_reading taskiter_read_lent(const uint8_t *text, size_t text_length,
                                                   uint64_t *plan, size_t plan_length) {
     static const uint8_t none = 0;
     taskiter_reading refused = {11, 0};
-    if (plan == NULL)
+    if (plan == NULL || (text == NULL && text_length > 0))
         return refused;
-    return taskiter_read(text == NULL && text_length == 0 ? &none : text, text_length, plan,
-                         plan_length);
+    return taskiter_read(text == NULL ? &none : text, text_length, plan, plan_length);
+}
+
+static inline taskiter_number taskiter_write_lent(const uint64_t *plan, size_t plan_length,
+                                                  uint8_t *text, size_t text_length) {
+    uint8_t none = 0;
+    taskiter_number refused = {11, 0};
+    if (plan == NULL || (text == NULL && text_length > 0))
+        return refused;
+    return taskiter_write(plan, plan_length, text == NULL ? &none : text, text_length);
 }
 
 static inline taskiter_number taskiter_items_lent(const uint64_t *plan, size_t plan_length,
@@ -242,15 +275,16 @@ static inline uint64_t taskiter_play_lent(const uint64_t *plan, size_t plan_leng
                                           const uint64_t *calls, size_t calls_length,
                                           uint64_t *answers, size_t answers_length) {
     uint64_t none[2] = {0, 0};
-    if (plan == NULL || counts == NULL || values == NULL)
+    if (plan == NULL || counts == NULL || values == NULL || (calls == NULL && calls_length > 0) ||
+        (answers == NULL && answers_length > 0))
         return 11;
     return taskiter_play(plan, plan_length, counts, counts_length, values, values_length,
-                         calls == NULL && calls_length == 0 ? &none[0] : calls, calls_length,
-                         answers == NULL && answers_length == 0 ? &none[1] : answers,
-                         answers_length);
+                         calls == NULL ? &none[0] : calls, calls_length,
+                         answers == NULL ? &none[1] : answers, answers_length);
 }
 
 #define taskiter_read(...) taskiter_read_lent(__VA_ARGS__)
+#define taskiter_write(...) taskiter_write_lent(__VA_ARGS__)
 #define taskiter_items(...) taskiter_items_lent(__VA_ARGS__)
 #define taskiter_edges(...) taskiter_edges_lent(__VA_ARGS__)
 #define taskiter_open(...) taskiter_open_lent(__VA_ARGS__)
