@@ -1,1 +1,2 @@
-// No code: bounded quantifiers, sums, list builders and numbers put into a slice (specs/) with their laws (proofs/), for the crates above.
+// No code: bounded quantifiers, sums, list builders and numbers put into a slice (specs/), with
+// their laws (proofs/), for the crates above.

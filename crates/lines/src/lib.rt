@@ -1,5 +1,5 @@
-// The lines that the run program prints, put at the start of a lent slice. Inside, each function puts
-// its bytes from an offset on and answers the offset behind them.
+// The lines that the run program prints, put at the start of a lent slice. Inside, each function
+// puts its bytes from an offset on and answers the offset behind them.
 ghost use Prim.Native.Nat.{_+_, _*_, _<_, _≤_};
 ghost use mathlib.Core.List.{[], _∷_, _++_};
 ghost use lib.ListN.{length};
