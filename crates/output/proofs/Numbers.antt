@@ -25,7 +25,7 @@ decimal-enough (suc k) n h = go (ltb n 10) refl (decimal-enough k (n / 10))
     go true e ih = rw e
     go false e ih = let s = pow-suc 10 (suc k) in rw e (ap (λ l. l ++ ((48 + n % 10) ∷ [])) (ih (omega arith)))
 
-pub digits-one : (n : ℕ) → n < 10 → digits (Value n) ≡ (48 + n) ∷ []
+digits-one : (n : ℕ) → n < 10 → digits (Value n) ≡ (48 + n) ∷ []
 unfolding digits
 digits-one n h = rw (lt-ltb n 10 h)
 

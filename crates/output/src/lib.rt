@@ -51,7 +51,7 @@ fn put_two(out: &mut [u8], at: usize, n: u64)
 }
 
 // A number in decimal, two digits at a time, its last ones first.
-pub fn put_number(out: &mut [u8], at: usize, n: u64) -> usize
+fn put_number(out: &mut [u8], at: usize, n: u64) -> usize
     requires { ⌜ RoomAt (digits (Value n)) at (now out) ⌝ }
     ensures { λ r. ⌜ Added (digits (Value n)) at (now (out .entry)) r (now (out .exit)) ⌝ }
 {

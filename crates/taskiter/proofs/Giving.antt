@@ -1,7 +1,7 @@
 -- Demand 2: what C gets from `taskiter_items` and `taskiter_edges` (specs/Given.antt).
 use Prim.Native.Nat.{ℕ, _+_, _*_, _≤_, _<_}
 use mathlib.Core.Path.{_≡_, refl, sym, _∙_, ap, subst}
-use mathlib.Core.Bool.{Bool, true, false, _&&_}
+use mathlib.Core.Bool.{Bool, true, false, cond, _&&_}
 use mathlib.Core.Logic.{_↔_, inl, inr, ⊎-elim}
 use mathlib.Core.List.{List, _++_, flatMap}
 use native.Mathlib.Decide.{ℕ-discrete, decLt}
@@ -29,23 +29,36 @@ use Rattle.taskiter.specs.Given.{ShortOf, GraphGiven, SaysItem, ItemsGiv
 use Rattle.taskiter.proofs.Parts.{getD-part, length-behind, getD-behind}
 use Rattle.taskiter.proofs.Readiness.{read-formed, formed-read}
 
--- the refusal of a lent plan, by the tests of its length and form
-refusal-tests : (long formed : Bool) (n : ℕ) → n ≡ refusalOf long formed true →
-    ((n ≡ 11) ↔ (long ≡ false)) × ((n ≡ 12) ↔ ((long ≡ true) × (formed ≡ false))) × ((n ≡ 0) ↔ ((long ≡ true) × (formed ≡ true)))
-refusal-tests true true n e = (
+-- the refusal of a lent plan by the tests of its length and form, and of the room for its text; where no text is written, room is true
+abbrev pub Tests : Bool → Bool → Bool → ℕ → Type 0
+Tests long formed room n =
+    ((n ≡ 11) ↔ (long ≡ false)) × ((n ≡ 12) ↔ ((long ≡ true) × (formed ≡ false)))
+    × ((n ≡ 19) ↔ (((long ≡ true) × (formed ≡ true)) × (room ≡ false))) × ((n ≡ 0) ↔ (((long ≡ true) × (formed ≡ true)) × (room ≡ true)))
+
+pub refusal-tests : (long formed room : Bool) (n : ℕ) → n ≡ cond long (cond formed (cond room 0 19) 12) 11 → Tests long formed room n
+refusal-tests true true true n e = (
   (λ h. absurd (omega arith), λ h. absurd (not-both refl h)),
   (λ h. absurd (omega arith), λ h. absurd (not-both refl (h .1))),
-  (λ h. (refl, refl), λ h. e),
+  (λ h. absurd (omega arith), λ h. absurd (not-both refl (h .1))),
+  (λ h. ((refl, refl), refl), λ h. e),
 )
-refusal-tests true false n e = (
+refusal-tests true true false n e = (
   (λ h. absurd (omega arith), λ h. absurd (not-both refl h)),
-  (λ h. (refl, refl), λ h. e),
+  (λ h. absurd (omega arith), λ h. absurd (not-both refl (h .1))),
+  (λ h. ((refl, refl), refl), λ h. e),
   (λ h. absurd (omega arith), λ h. absurd (not-both (h .1) refl)),
 )
-refusal-tests false formed n e = (
+refusal-tests true false room n e = (
+  (λ h. absurd (omega arith), λ h. absurd (not-both refl h)),
+  (λ h. (refl, refl), λ h. e),
+  (λ h. absurd (omega arith), λ h. absurd (not-both (h .0 .1) refl)),
+  (λ h. absurd (omega arith), λ h. absurd (not-both (h .0 .1) refl)),
+)
+refusal-tests false formed room n e = (
   (λ h. refl, λ h. e),
   (λ h. absurd (omega arith), λ h. absurd (not-both (h .0) refl)),
-  (λ h. absurd (omega arith), λ h. absurd (not-both (h .0) refl)),
+  (λ h. absurd (omega arith), λ h. absurd (not-both (h .0 .0) refl)),
+  (λ h. absurd (omega arith), λ h. absurd (not-both (h .0 .0) refl)),
 )
 
 -- a slice of at least n numbers is lent with the plan
@@ -78,12 +91,12 @@ module _ (n : ℕ) (plan slice : List ℕ) where
   -- accepted, the first of its numbers are replaced by `front`
   module _ (words : (i : ℕ) → getD plan i 0 ≤ maxWord) (r : Number) (told : r .refusal ≡ refusalOf long (formedPlan plan) true) where
     accepted-both : r .refusal ≡ 0 → (planWords ≤ length plan) × (n ≤ length slice) × (formedPlan plan ≡ true)
-    accepted-both z = let t = refusal-tests long (formedPlan plan) (r .refusal) told .2 .0 z in let l = long-sizes (t .0) in (l .0, l .1, t .1)
+    accepted-both z = let t = refusal-tests long (formedPlan plan) true (r .refusal) told .3 .0 z .0 in let l = long-sizes (t .0) in (l .0, l .1, t .1)
 
     graph-given : (slice′ : List ℕ) (end : ℕ) → ((r .refusal ≡ 0 → ⊥) → (r .number ≡ 0) × (slice′ ≡ slice)) →
         (r .refusal ≡ 0 → (front : List ℕ) × (length front ≡ end) × (end ≤ n) × (slice′ ≡ front ++ drop end slice)) → GraphGiven n plan slice r slice′ end
     graph-given slice′ end refused accepted =
-        let t = refusal-tests long (formedPlan plan) (r .refusal) told in
+        let t = refusal-tests long (formedPlan plan) true (r .refusal) told in
         record {
           refusal-11 = (λ e. is-short (t .0 .0 e), λ s. t .0 .1 (false-of long (λ h. long-not h s)));
           refusal-12 = (
@@ -91,8 +104,8 @@ module _ (n : ℕ) (plan slice : List ℕ) where
             λ h. let l = not-short (h .0) in t .1 .1 (l, false-of (formedPlan plan) (λ f. h .1 (formed-read plan words (long-sizes l .0) f))),
           );
           refusal-0 = (
-            λ e. let h = t .2 .0 e in (long-not (h .0), formed-read plan words (long-sizes (h .0) .0) (h .1)),
-            λ h. t .2 .1 (not-short (h .0), read-formed plan (h .1)),
+            λ e. let h = t .3 .0 e .0 in (long-not (h .0), formed-read plan words (long-sizes (h .0) .0) (h .1)),
+            λ h. t .3 .1 ((not-short (h .0), read-formed plan (h .1)), refl),
           );
           refused = refused;
           size =

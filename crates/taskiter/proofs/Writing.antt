@@ -1,8 +1,7 @@
 -- Demand 1: what C gets from `taskiter_write` (specs/Given.antt).
 use Prim.Native.Nat.{ℕ, _≤_, _<_}
 use mathlib.Core.Path.{_≡_, refl, _∙_, ap}
-use mathlib.Core.Bool.{Bool, true, false, cond}
-use mathlib.Core.Logic.{_↔_}
+use mathlib.Core.Bool.{true}
 use mathlib.Core.List.{List}
 use native.Mathlib.Decide.{ℕ-discrete}
 use native.Mathlib.Omega.{arith}
@@ -22,44 +21,13 @@ use Rattle.graph.specs.declared.Number.{Number}
 use Rattle.graph.specs.Answers.{longPlan, formedPlan}
 use Rattle.writer.specs.Answer.{WriteAnswer, planText}
 use Rattle.taskiter.specs.Given.{GoodPlan, TextGiven}
+use Rattle.taskiter.proofs.Giving.{Tests, refusal-tests}
 use Rattle.taskiter.proofs.Parts.{length-behind, getD-behind}
 use Rattle.taskiter.proofs.Readiness.{cut-words, read-formed, formed-read}
 
--- the refusal by the three tests
-abbrev Tests : Bool → Bool → Bool → ℕ → Type 0
-Tests long formed room n =
-    ((n ≡ 11) ↔ (long ≡ false)) × ((n ≡ 12) ↔ ((long ≡ true) × (formed ≡ false)))
-    × ((n ≡ 19) ↔ (((long ≡ true) × (formed ≡ true)) × (room ≡ false))) × ((n ≡ 0) ↔ (((long ≡ true) × (formed ≡ true)) × (room ≡ true)))
-
-write-tests : (long formed room : Bool) (n : ℕ) → n ≡ cond long (cond formed (cond room 0 19) 12) 11 → Tests long formed room n
-write-tests true true true n e = (
-  (λ h. absurd (omega arith), λ h. absurd (not-both refl h)),
-  (λ h. absurd (omega arith), λ h. absurd (not-both refl (h .1))),
-  (λ h. absurd (omega arith), λ h. absurd (not-both refl (h .1))),
-  (λ h. ((refl, refl), refl), λ h. e),
-)
-write-tests true true false n e = (
-  (λ h. absurd (omega arith), λ h. absurd (not-both refl h)),
-  (λ h. absurd (omega arith), λ h. absurd (not-both refl (h .1))),
-  (λ h. ((refl, refl), refl), λ h. e),
-  (λ h. absurd (omega arith), λ h. absurd (not-both (h .1) refl)),
-)
-write-tests true false room n e = (
-  (λ h. absurd (omega arith), λ h. absurd (not-both refl h)),
-  (λ h. (refl, refl), λ h. e),
-  (λ h. absurd (omega arith), λ h. absurd (not-both (h .0 .1) refl)),
-  (λ h. absurd (omega arith), λ h. absurd (not-both (h .0 .1) refl)),
-)
-write-tests false formed room n e = (
-  (λ h. refl, λ h. e),
-  (λ h. absurd (omega arith), λ h. absurd (not-both (h .0) refl)),
-  (λ h. absurd (omega arith), λ h. absurd (not-both (h .0 .0) refl)),
-  (λ h. absurd (omega arith), λ h. absurd (not-both (h .0 .0) refl)),
-)
-
 module _ (plan text : List ℕ) (r : Number) (text′ : List ℕ) (words : (i : ℕ) → getD plan i 0 ≤ maxWord) (A : WriteAnswer plan text r text′) where
   tests : Tests (longPlan plan) (formedPlan plan) (leb (length (planText plan)) (length text)) (r .refusal)
-  tests = write-tests (longPlan plan) (formedPlan plan) (leb (length (planText plan)) (length text)) (r .refusal) (A .refusal)
+  tests = refusal-tests (longPlan plan) (formedPlan plan) (leb (length (planText plan)) (length text)) (r .refusal) (A .refusal)
 
   written : (longPlan plan ≡ true) × (formedPlan plan ≡ true) → GoodPlan plan
   written h = let l : planWords ≤ length plan = leb-true _ _ (h .0) in (l, formed-read plan words l (h .1))

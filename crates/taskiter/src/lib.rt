@@ -74,7 +74,7 @@ pub extern "C" fn taskiter_edges(plan: &[u64], list: &mut [u32]) -> Number
     }
 }
 
-// WriteAnswer a lent plan into a lent text; the number is the text's length.
+// Writes a lent plan into a lent text; the number is the text's length.
 #[no_mangle]
 pub extern "C" fn taskiter_write(plan: &[u64], text: &mut [u8]) -> Number
     ensures { λ r. ⌜ WriteAnswer (now (plan .entry)) (now (text .entry)) r (now (text .exit)) ⌝ }

@@ -32,7 +32,7 @@ fn has_room(words: &[u64], room: usize) -> bool
     text_length(words) <= room
 }
 
-// WriteAnswer a lent plan into a lent text.
+// Writes a lent plan into a lent text.
 pub fn write(plan: &[u64], text: &mut [u8]) -> Number
     ensures { λ r. ⌜ WriteAnswer (now (plan .entry)) (now (text .entry)) r (now (text .exit)) ⌝ }
 {
