@@ -1,5 +1,5 @@
--- Laws of the quantifiers, counts and sums below n. Those that end in -none, -more and -done are a loop's: before its first
--- turn, over a turn, and after its last.
+-- Laws of the quantifiers, counts and sums below n. Those that end in -none, -more and -done are a
+-- loop's: before its first turn, over a turn, and after its last.
 use Prim.Native.Nat.{ℕ, zero, suc, _+_, _*_, _≤_, _<_}
 use mathlib.Core.Path.{_≡_, refl, sym, _∙_, ap, subst}
 use mathlib.Core.Bool.{Bool, true, false, cond, _&&_, _||_, or-true, and-true as and-always, and-assoc, and-eq-true-iff, not}
@@ -158,7 +158,7 @@ unfolding countBelow
 count-never zero p h = refl
 count-never (suc n) p h = rw (count-never n p (λ k l. h k (omega arith)), h n (omega arith))
 
-one-at-most : (b : Bool) → cond b 1 0 ≤ 1
+pub one-at-most : (b : Bool) → cond b 1 0 ≤ 1
 one-at-most true = omega arith
 one-at-most false = omega arith
 
@@ -203,15 +203,19 @@ sum-tight (suc n) f g h e k l =
     let below : sumBelow n f ≤ sumBelow n g = sum-le n f g (λ j m. h j (omega arith)) in
     below-suc (λ j. f j ≡ g j) n (sum-tight n f g (λ j m. h j (omega arith)) (omega (arith, below, h n (omega arith)))) (omega (arith, below, h n (omega arith))) k l
 
--- one term is one more
-pub sum-suc : (n : ℕ) (f g : ℕ → ℕ) (a : ℕ) → a < n → g a ≡ suc (f a) → ((k : ℕ) → (k ≡ a → ⊥) → g k ≡ f k) → sumBelow n g ≡ suc (sumBelow n f)
+-- one term is more by d
+pub sum-more-at : (n : ℕ) (f g : ℕ → ℕ) (a d : ℕ) → a < n → g a ≡ f a + d → ((k : ℕ) → (k ≡ a → ⊥) → k < n → g k ≡ f k) → sumBelow n g ≡ sumBelow n f + d
 unfolding sumBelow
-sum-suc zero f g a l e h = absurd (omega arith)
-sum-suc (suc n) f g a l e h =
+sum-more-at zero f g a d l e h = absurd (omega arith)
+sum-more-at (suc n) f g a d l e h =
     elim (ℕ-discrete n a) [
-      | yes k ↦ omega (arith, sum-ext n g f (λ j m. h j (λ q. omega arith)), ap f k, ap g k)
-      | no k ↦ omega (arith, sum-suc n f g a (omega arith) e h, h n k)
+      | yes k ↦ omega (arith, sum-ext n g f (λ j m. h j (λ q. omega arith) (omega arith)), ap f k, ap g k)
+      | no k ↦ omega (arith, sum-more-at n f g a d (omega arith) e (λ j q m. h j q (omega arith)), h n k (omega arith))
     ]
+
+-- by 1
+pub sum-suc : (n : ℕ) (f g : ℕ → ℕ) (a : ℕ) → a < n → g a ≡ suc (f a) → ((k : ℕ) → (k ≡ a → ⊥) → g k ≡ f k) → sumBelow n g ≡ suc (sumBelow n f)
+sum-suc n f g a l e h = omega (arith, sum-more-at n f g a 1 l (omega arith) (λ k q m. h k q))
 
 -- what lies beyond n adds nothing
 pub sum-beyond : (m n : ℕ) (f : ℕ → ℕ) → n ≤ m → ((k : ℕ) → n ≤ k → k < m → f k ≡ 0) → sumBelow m f ≡ sumBelow n f
@@ -254,7 +258,8 @@ unfolding countBelow sumBelow
 count-split zero n p = rw zero-mul
 count-split (suc m) n p = rw suc-mul (omega (arith, count-add (m * n) n p, count-split m n p))
 
--- numbers that others cover: each of the first is h of one of the second, so there are no more of them
+-- numbers that others cover: each of the first is h of one of the second, so there are no more of
+-- them
 count-without : (n x : ℕ) (p : ℕ → Bool) → countBelow n p ≤ suc (countBelow n (λ k. p k && not (eqb k x)))
 unfolding countBelow
 count-without zero x p = omega arith

@@ -1,13 +1,16 @@
--- Numbers as sums of powers of two: 2 ^ q for each q below n of which p holds.
-use Prim.Native.Nat.{ℕ, zero, suc, _+_, _-_, _*_, _/_, _%_, _^_, _<_}
-use mathlib.Core.Path.{_≡_, refl, sym, _∙_, ap}
+-- Numbers as sums of powers of two: 2 ^ q for each q below n of which p holds. And a number's
+-- lowest set bit.
+use Prim.Native.Nat.{ℕ, zero, suc, _+_, _-_, _*_, _/_, _%_, _^_, _<_, min}
+use mathlib.Core.Path.{_≡_, refl, sym, _∙_, ap, ap₂}
 use mathlib.Core.Bool.{Bool, true, false, cond, not, _||_, or-true, or-false}
-use native.Mathlib.Decide.{ℕ-discrete}
-use native.Mathlib.Nat.{mod-lt, mul-assoc, mul-add-mod-self-right, div-lt-iff-lt-mul, pow-suc}
+use native.Mathlib.Decide.{ℕ-discrete, decLt}
+use native.Mathlib.Nat.{mod-lt, mul-one, mul-assoc, suc-mul, mul-add-mod-self-right, div-one, zero-div, div-eq-of-lt, div-lt-iff-lt-mul, lt-of-lt-of-le, pow-suc}
 use native.Mathlib.Omega.{arith}
 use borrow.Author.Tests.{eq-eqb, ne-eqb}
+use lib.Bits.{bitAnd, and-le-r, and-step, and-zero-l, and-self, and-block}
+use lib.Count.{trailingZeros, under}
 use lib.Dec.{eqb}
-use lib.Pow.{pow-pos, pow-add, field, high, split}
+use lib.Pow.{pow-pos, pow-add, pow-mono, field, high, split, shl-shr, shr-shr, ones-lt}
 use Rattle.finite.specs.Below.{sumBelow}
 use Rattle.finite.proofs.Below.{sum-ext}
 
@@ -148,3 +151,102 @@ module _ (n x q : ℕ) (below : x < 2 ^ n) (l : q < n) (unset : x / 2 ^ q % 2 �
       turn false zero h = refl
       turn false (suc zero) h = refl
       turn b (suc (suc y)) h = absurd (omega arith)
+
+-- The lowest set bit of a number stands where its trailing zeros end. x & (x - 1) clears it, and
+-- keeps the others.
+shift-more : (x t : ℕ) → x / 2 / 2 ^ t ≡ x / 2 ^ suc t
+shift-more x t = let e : 1 + t ≡ suc t = omega arith in shr-shr x 1 t ∙ ap (λ (k : ℕ). x / 2 ^ k) e
+
+pub lowest-set : (n x : ℕ) → 0 < x → x < 2 ^ n → x / 2 ^ trailingZeros n x % 2 ≡ 1
+unfolding trailingZeros
+lowest-set zero x some l = absurd (omega arith)
+lowest-set (suc n) x some l = by (x % 2) refl (λ e. lowest-set n (x / 2) (omega arith) (omega (arith, pow-suc 2 n)))
+  where
+    by : (b : ℕ) → x % 2 ≡ b → (x % 2 ≡ 0 → x / 2 / 2 ^ trailingZeros n (x / 2) % 2 ≡ 1) → x / 2 ^ under b (trailingZeros n (x / 2)) % 2 ≡ 1
+    by zero e f = ap (λ (y : ℕ). y % 2) (sym (shift-more x (trailingZeros n (x / 2)))) ∙ f e
+    by (suc b) e f = ap (λ (y : ℕ). y % 2) (div-one x) ∙ omega arith
+
+lowest-whole : (n x : ℕ) → x / 2 ^ trailingZeros n x * 2 ^ trailingZeros n x ≡ x
+unfolding trailingZeros
+lowest-whole zero x = mul-one (x / 1) ∙ div-one x
+lowest-whole (suc n) x = by (x % 2) refl (lowest-whole n (x / 2))
+  where
+    by : (b : ℕ) → x % 2 ≡ b → x / 2 / 2 ^ trailingZeros n (x / 2) * 2 ^ trailingZeros n (x / 2) ≡ x / 2 →
+        x / 2 ^ under b (trailingZeros n (x / 2)) * 2 ^ under b (trailingZeros n (x / 2)) ≡ x
+    by zero e f =
+        let t = trailingZeros n (x / 2) in
+        let half : x / 2 ^ suc t * 2 ^ t ≡ x / 2 = ap (λ (y : ℕ). y * 2 ^ t) (sym (shift-more x t)) ∙ f in
+        ap (λ (y : ℕ). x / 2 ^ suc t * y) (pow-suc 2 t) ∙ (sym (mul-assoc (x / 2 ^ suc t) (2 ^ t) 2) ∙ omega (arith, half))
+    by (suc b) e f = mul-one (x / 1) ∙ div-one x
+
+pub cleared-less : (x : ℕ) → 0 < x → bitAnd x (x - 1) < x
+cleared-less x some = omega (arith, and-le-r x (x - 1))
+
+module _ (n x : ℕ) (some : 0 < x) (below : x < 2 ^ n) where
+  pub lowest-below : (m : ℕ) → x < 2 ^ m → trailingZeros n x < m
+  lowest-below m l =
+      elim (decLt (trailingZeros n x) m) [
+        | yes k ↦ k
+        | no k ↦
+            (let z : x / 2 ^ trailingZeros n x ≡ 0 = div-eq-of-lt (lt-of-lt-of-le l (pow-mono (omega arith))) in
+            absurd (omega (arith, z, lowest-set n x some below)))
+      ]
+
+  pub lowest-under : (j : ℕ) → j < trailingZeros n x → x / 2 ^ j % 2 ≡ 0
+  lowest-under j l =
+      let t = trailingZeros n x in
+      let e : x ≡ x / 2 ^ t * 2 ^ t + 0 = omega (arith, lowest-whole n x) in
+      ap (λ (y : ℕ). y / 2 ^ j % 2) e ∙ (bit-low (x / 2 ^ t) 0 t j l ∙ ap (λ (y : ℕ). y % 2) (zero-div (2 ^ j)))
+
+  -- the bits above it
+  above : ℕ
+  above = x / 2 ^ trailingZeros n x - 1
+
+  lowest-above : x ≡ above * 2 ^ trailingZeros n x + 2 ^ trailingZeros n x
+  unfolding above
+  lowest-above =
+      let t = trailingZeros n x in
+      let e : x / 2 ^ t ≡ suc (x / 2 ^ t - 1) = omega (arith, lowest-set n x some below) in
+      sym (lowest-whole n x) ∙ (ap (λ (y : ℕ). y * 2 ^ t) e ∙ suc-mul (x / 2 ^ t - 1) (2 ^ t))
+
+  above-even : above % 2 ≡ 0
+  unfolding above
+  above-even = omega (arith, lowest-set n x some below)
+
+  and-above : bitAnd (x / 2 ^ trailingZeros n x) above ≡ above
+  unfolding above
+  and-above =
+      let d = x / 2 ^ trailingZeros n x in
+      let o : d % 2 ≡ 1 = lowest-set n x some below in
+      let h : (d - 1) / 2 ≡ d / 2 = omega arith in
+      let z : (d - 1) % 2 ≡ 0 = omega arith in
+      let m : min (d % 2) ((d - 1) % 2) ≡ 0 = rw (o, z) in
+      and-step d (d - 1) ∙ (ap (λ (y : ℕ). bitAnd (d / 2) y * 2 + min (d % 2) ((d - 1) % 2)) h ∙ omega (arith, m, and-self (d / 2)))
+
+  -- x - 1 has the bits above, not that bit, and all below
+  pub lowest-cleared : bitAnd x (x - 1) + 2 ^ trailingZeros n x ≡ x
+  lowest-cleared =
+      let t = trailingZeros n x in
+      let whole : x ≡ x / 2 ^ t * 2 ^ t + 0 = omega (arith, lowest-whole n x) in
+      let less : x - 1 ≡ above * 2 ^ t + (2 ^ t - 1) = omega (arith, lowest-above, pow-pos t) in
+      let parts : bitAnd x (x - 1) ≡ bitAnd (x / 2 ^ t) above * 2 ^ t + bitAnd 0 (2 ^ t - 1) =
+      ap₂ bitAnd whole less ∙ and-block t (x / 2 ^ t) above 0 (2 ^ t - 1) (pow-pos t) (ones-lt t) in
+      omega (arith, parts, ap (λ (y : ℕ). y * 2 ^ t) and-above, and-zero-l (2 ^ t - 1), lowest-above)
+
+  cleared-unset : bitAnd x (x - 1) / 2 ^ trailingZeros n x % 2 ≡ 0
+  cleared-unset =
+      let t = trailingZeros n x in
+      let e : bitAnd x (x - 1) ≡ above * 2 ^ t = omega (arith, lowest-cleared, lowest-above) in
+      ap (λ (y : ℕ). y / 2 ^ t % 2) e ∙ (ap (λ (y : ℕ). y % 2) (shl-shr above t) ∙ above-even)
+
+  pub cleared-bit : (j : ℕ) → j < n → bitAnd x (x - 1) / 2 ^ j % 2 ≡ cond (eqb j (trailingZeros n x)) 0 (x / 2 ^ j % 2)
+  cleared-bit j l =
+      let t = trailingZeros n x in
+      let y = bitAnd x (x - 1) in
+      elim (ℕ-discrete j t) [
+        | yes e ↦ rw (e, eq-eqb t t refl) cleared-unset
+        | no e ↦
+            (let more : x / 2 ^ j % 2 ≡ cond (eqb j t) 1 (y / 2 ^ j % 2) =
+            ap (λ (z : ℕ). z / 2 ^ j % 2) (sym lowest-cleared) ∙ bit-more n y t (omega (arith, lowest-cleared)) (lowest-below n below) cleared-unset j l in
+            rw (ne-eqb j t e) (sym (rw (ne-eqb j t e) at more)))
+      ]

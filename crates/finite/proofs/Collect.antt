@@ -6,6 +6,8 @@ use mathlib.Core.List.{List, [], _∷_, _++_, map, flatMap, append-assoc, append
 use native.Mathlib.Decide.{decLt, ℕ-discrete}
 use native.Mathlib.Numerals.{add-one}
 use native.Mathlib.Omega.{arith}
+use borrow.Author.Tests.{eq-eqb, ne-eqb}
+use lib.Dec.{eqb}
 use lib.ListN.{length, getD, length-append}
 use Rattle.finite.specs.Below.{sumBelow}
 use Rattle.finite.specs.Lists.{range, gather, collect}
@@ -51,6 +53,21 @@ module _ {X : Type 0} where
   pub collect-never : (n : ℕ) (f : ℕ → List X) → ((k : ℕ) → k < n → f k ≡ []) → collect n f ≡ []
   unfolding collect
   collect-never n f h = collect-beyond n 0 f (omega arith) (λ k u v. h k v)
+
+  -- the first list that is not empty, and the others
+  pub collect-front : (n q : ℕ) (f : ℕ → List X) → q < n → ((k : ℕ) → k < q → f k ≡ []) → collect n f ≡ f q ++ collect n (λ k. cond (eqb k q) [] (f k))
+  unfolding collect
+  collect-front zero q f l h = absurd (omega arith)
+  collect-front (suc n) q f l h =
+      elim (ℕ-discrete n q) [
+        | yes e ↦
+            (let none : collect n (λ k. cond (eqb k q) [] (f k)) ≡ [] =
+            collect-never n (λ k. cond (eqb k q) [] (f k)) (λ k m. rw (ne-eqb k q (λ z. omega arith)) (h k (omega arith))) in
+            rw (none, eq-eqb n q e, collect-never n f (λ k m. h k (omega arith)), append-nil, e))
+        | no e ↦
+            rw (ne-eqb n q e)
+            (ap (λ (l : List X). l ++ f n) (collect-front n q f (omega arith) h) ∙ append-assoc (f q) (collect n (λ k. cond (eqb k q) [] (f k))) (f n))
+      ]
 
   -- one list of k has room among them behind those before it
   pub collect-room : (k i : ℕ) (f : ℕ → List X) → i < k → length (collect i f) + length (f i) ≤ length (collect k f)

@@ -10,4 +10,5 @@ pub mod Replaced
 pub mod Sums
 pub mod Collect
 pub mod Bits
+pub mod Bitwise
 pub mod Puts

@@ -1,5 +1,5 @@
--- Laws of range, tabulate, replicate, gather and flatMap. Those that end in -none, -more and -done are a loop's that fills a list: before
--- its first turn, over a turn, and after its last.
+-- Laws of range, tabulate, replicate, gather and flatMap. Those that end in -none, -more and -done
+-- are a loop's that fills a list: before its first turn, over a turn, and after its last.
 use Prim.Native.Nat.{ℕ, zero, suc, _+_, _≤_, _<_}
 use mathlib.Core.Path.{_≡_, refl, sym, _∙_, ap}
 use mathlib.Core.Bool.{Bool, true, false, cond}
@@ -13,9 +13,10 @@ use native.Mathlib.Numerals.{add-one}
 use native.Mathlib.Omega.{arith}
 use borrow.Author.Fill.{fill-more}
 use lib.ListN.{length, getD, take, drop, set, replicate, length-append, drop-of-length-le, List·getD-append}
-use lib.Seq.{take-suc-set, take-set-le, take-all, getD-at}
+use lib.Seq.{take-suc-set, take-set-le, take-all, getD-at, getD-append-add}
 use Rattle.finite.specs.Below.{countBelow, sumBelow}
 use Rattle.finite.specs.Lists.{range, tabulate, gather}
+use Rattle.finite.proofs.Below.{count-add, count-ext}
 
 -- range
 
@@ -166,3 +167,18 @@ length-flatMap-gather f (suc n) p g =
     one : (b : Bool) → length (flatMap f (cond b (g n ∷ []) [])) ≡ cond b (length (f (g n))) 0
     one true = ap length (append-nil (f (g n)))
     one false = refl
+
+-- the elements of a list of which p holds, among its first ones
+
+pub count-left : {X : Type 0} (p : X → Bool) (d : X) (l m : List X) (a : ℕ) → a ≤ length l → countBelow a (λ k. p (getD (l ++ m) k d)) ≡ countBelow a (λ k. p (getD l k d))
+count-left p d l m a h = count-ext a (λ k. p (getD (l ++ m) k d)) (λ k. p (getD l k d)) (λ k n. ap p (List·getD-append l m d k (omega arith)))
+
+pub count-right : {X : Type 0} (p : X → Bool) (d : X) (l m : List X) (a : ℕ) →
+    countBelow (length l + a) (λ k. p (getD (l ++ m) k d)) ≡ countBelow (length l) (λ k. p (getD l k d)) + countBelow a (λ k. p (getD m k d))
+count-right p d l m a =
+    omega (
+      arith,
+      count-add (length l) a (λ k. p (getD (l ++ m) k d)),
+      count-left p d l m (length l) (omega arith),
+      count-ext a (λ k. p (getD (l ++ m) (length l + k) d)) (λ k. p (getD m k d)) (λ k n. ap p (getD-append-add l m k d)),
+    )

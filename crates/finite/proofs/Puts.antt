@@ -113,6 +113,33 @@ module _ (f : ℕ → List ℕ) (from : ℕ) where
   pub collect-done : (n i : ℕ) (out : List ℕ) (r : ℕ) (out′ : List ℕ) → Added (collect i f) from out r out′ → n ≤ i → i ≤ n → Added (collect n f) from out r out′
   collect-done n i out r out′ a l m = let e : i ≡ n = omega arith in rw e at a
 
+-- a loop that puts X from an offset on, part by part: Y is left, to be put at `at`
+pub record Left (X : List ℕ) (from : ℕ) (out Y : List ℕ) (at : ℕ) (mid : List ℕ) : Type 0 where
+  pub size : length mid ≡ length out
+  pub room : RoomAt Y at mid
+  pub rest : (r : ℕ) (out′ : List ℕ) → Added Y at mid r out′ → Added X from out r out′
+
+module _ {X : List ℕ} {from : ℕ} {out : List ℕ} where
+  pub left-all : RoomAt X from out → Left X from out X from out
+  left-all h = record { size = refl; room = h; rest = λ r out′ a. a }
+
+  module _ {Y : List ℕ} {at : ℕ} {mid : List ℕ} where
+    pub left-none : Y ≡ [] → Left X from out Y at mid → Added X from out at mid
+    left-none e l = l .rest at mid (added-same (sym e) added-none)
+
+    -- part P comes first
+    module _ (P Z : List ℕ) (e : Y ≡ P ++ Z) (l : Left X from out Y at mid) where
+      pub left-fits : RoomAt P at mid
+      left-fits = room-first P Z (room-same e (l .room))
+
+      pub left-more : {r : ℕ} {mid′ : List ℕ} → Added P at mid r mid′ → Left X from out Z r mid′
+      left-more p =
+          record {
+            size = p .size ∙ l .size;
+            room = room-rest p (room-same e (l .room));
+            rest = λ s out′ a. l .rest s out′ (added-same (sym e) (added-append p a));
+          }
+
 -- For callers: the slice behind what was put is lent, and more is put at its start.
 module _ (xs ys out : List ℕ) (r : ℕ) (mid : List ℕ) (p : Put xs out r mid) where
   behind : drop r mid ≡ drop (length xs) out

@@ -10,7 +10,7 @@ use borrow.Author.Tests.{eqb-true, eq-eqb}
 use lib.Dec.{eqb}
 use Rattle.finite.specs.Below.{anyBelow, countBelow, sumBelow}
 use Rattle.finite.proofs.Below.{any-from, count-le, count-never, count-sum, sum-const, sum-ext, sum-le}
-use Rattle.finite.proofs.Tests.{and-intro, and-true, false-of, true-or-false}
+use Rattle.finite.proofs.Tests.{and-intro, and-true, false-of, not-both, true-or-false}
 
 -- sums
 
@@ -56,6 +56,17 @@ count-or (suc n) p q = omega (arith, count-or n p q, one (p n) (q n))
     one : (a b : Bool) → cond (a || b) 1 0 ≤ cond a 1 0 + cond b 1 0
     one true b = omega arith
     one false b = omega arith
+
+-- where at most one of them holds
+pub count-or-apart : (n : ℕ) (p q : ℕ → Bool) → ((k : ℕ) → q k ≡ true → p k ≡ false) → countBelow n (λ k. p k || q k) ≡ countBelow n p + countBelow n q
+unfolding countBelow
+count-or-apart zero p q h = refl
+count-or-apart (suc n) p q h = omega (arith, count-or-apart n p q h, one (p n) (q n) (h n))
+  where
+    one : (a b : Bool) → (b ≡ true → a ≡ false) → cond (a || b) 1 0 ≡ cond a 1 0 + cond b 1 0
+    one true true e = absurd (not-both refl (e refl))
+    one true false e = refl
+    one false b e = omega arith
 
 -- with q and without
 pub count-parts : (n : ℕ) (p q : ℕ → Bool) → countBelow n p ≡ countBelow n (λ k. p k && q k) + countBelow n (λ k. p k && not (q k))

@@ -1,8 +1,9 @@
 -- Laws of update, put and set.
-use Prim.Native.Nat.{ℕ, zero, suc, _<_}
-use mathlib.Core.Path.{_≡_, refl, sym, _∙_, subst}
+use Prim.Native.Nat.{ℕ, zero, suc, _+_, _<_}
+use mathlib.Core.Path.{_≡_, refl, sym, _∙_, ap, subst}
 use mathlib.Core.Bool.{Bool, true, false, cond}
-use mathlib.Core.List.{List, [], _∷_}
+use mathlib.Core.List.{List, [], _∷_, _++_}
+use native.Mathlib.Nat.{zero-add, suc-add}
 use borrow.Author.Tests.{eqb-true, eqb-false, eq-eqb}
 use lib.Dec.{eqb}
 use lib.ListN.{length, getD, set, length-set}
@@ -68,3 +69,8 @@ set-at xs k g v d h = go (eqb g k) refl
     go : (t : Bool) → eqb g k ≡ t → getD (set xs k v) g d ≡ cond t v (getD xs g d)
     go true e = subst (λ (j : ℕ). getD (set xs k v) j d ≡ v) (sym (eqb-true g k e)) (getD-set-same xs k v d h)
     go false e = getD-set-other xs k g v d (eqb-false g k e)
+
+-- in the second of two lists
+pub set-behind : {X : Type 0} (xs ys : List X) (k : ℕ) (v : X) → set (xs ++ ys) (length xs + k) v ≡ xs ++ set ys k v
+set-behind [] ys k v = ap (λ (j : ℕ). set ys j v) (zero-add k)
+set-behind (x ∷ xs) ys k v = ap (λ (j : ℕ). set (x ∷ (xs ++ ys)) j v) (suc-add (length xs) k) ∙ ap (λ zs. x ∷ zs) (set-behind xs ys k v)
