@@ -2,14 +2,14 @@
 use Prim.Native.Nat.{ℕ, _+_, _≤_, _<_}
 use mathlib.Core.Path.{_≡_, refl, sym, _∙_, ap, subst}
 use mathlib.Core.Logic.{_⊎_, inl, inr, ⊎-elim, _↔_}
-use mathlib.Core.List.{flatMap, List·Memᴰ as In, List·Memᴰ·head as here, List·Memᴰ·tail as there, List·Memᴰ·not-nil as in-nil, List·Memᴰ·cases-cons as in-cases}
+use mathlib.Core.List.{List, [], _∷_, _++_, flatMap, List·Memᴰ as In, List·Memᴰ·head as here, List·Memᴰ·tail as there, List·Memᴰ·not-nil as in-nil, List·Memᴰ·cases-cons as in-cases}
 use mathlib.Core.Option.{Option, none, some, Option·some-injective, Option·none-ne-some}
 use native.Mathlib.Omega.{arith}
 use Rattle.finite.specs.Lists.{range}
 use Rattle.finite.proofs.Lists.{in-range, in-range-from}
 use Rattle.finite.proofs.Members.{in-flatMap, in-flatMap-from, in-at, at-in}
 use Rattle.body.specs.Body.{Body}
-use Rattle.body.specs.Transfers.{Transfer, transfer, transfersOf}
+use Rattle.body.specs.Transfers.{Transfer, transfer, transfersOf, transferList}
 use Rattle.body.specs.Items.{Item, task, send, receive, pairOf, block, itemList, itemAt}
 use Rattle.body.specs.Meaning.{IsTransfer, Listed}
 use Rattle.body.proofs.Writers.{Transferred, transfer-from, is-transfer, transfer-is}
@@ -22,6 +22,25 @@ abbrev pub carried : Item → Option Transfer
 carried (task i) = none
 carried (send i g q) = some (transfer i g q)
 carried (receive i g q) = some (transfer i g q)
+
+-- what holds of lists of items and their transfers, by the parts that the item list is made of
+module _ (R : List Item → List Transfer → Type 0) (nil : R [] []) (a-task : (i : ℕ) → R (task i ∷ []) []) (a-pair : (t : Transfer) → R (pairOf t) (t ∷ [])) (append : (l k : List Item) (m n : List Transfer) → R l m → R k n → R (l ++ k) (m ++ n)) where
+  pairs-ind : (m : List Transfer) → R (flatMap pairOf m) m
+  unfolding flatMap
+  pairs-ind [] = nil
+  pairs-ind (t ∷ m) = append (pairOf t) (flatMap pairOf m) (t ∷ []) m (a-pair t) (pairs-ind m)
+
+  blocks-ind : (B : Body) (l : List ℕ) → R (flatMap (block B) l) (flatMap (transfersOf B) l)
+  unfolding flatMap
+  blocks-ind B [] = nil
+  blocks-ind B (i ∷ l) =
+      append (block B i) (flatMap (block B) l) (transfersOf B i) (flatMap (transfersOf B) l)
+      (append (task i ∷ []) (flatMap pairOf (transfersOf B i)) [] (transfersOf B i) (a-task i) (pairs-ind (transfersOf B i)))
+      (blocks-ind B l)
+
+  pub list-ind : (B : Body) → R (itemList B) (transferList B)
+  unfolding itemList
+  list-ind B = blocks-ind B (range 0 (B .tasks))
 
 module _ (B : Body) where
   -- an item of the block of task j

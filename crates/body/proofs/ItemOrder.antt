@@ -2,7 +2,7 @@
 use Prim.Native.Nat.{ℕ, suc, _+_, _≤_, _<_}
 use mathlib.Core.Path.{_≡_, refl, sym, _∙_, ap, subst, subst₂}
 use mathlib.Core.Bool.{true}
-use mathlib.Core.Logic.{inl, inr, ⊎-elim}
+use mathlib.Core.Logic.{_⊎_, inl, inr, ⊎-elim}
 use mathlib.Core.List.{List, [], _∷_, _++_, List·Memᴰ as In, List·Memᴰ·not-nil as in-nil, List·Memᴰ·cases-cons as in-cases}
 use native.Mathlib.Decide.{decLt}
 use native.Mathlib.Omega.{arith}
@@ -62,15 +62,16 @@ module _ (B : Body) where
       let v = block-key k y (in-block B k y n) in
       rw (u .1, v .1) (inl l)
 
-  pair-key : (i g q : ℕ) (x : Item) → In x (pairOf (transfer i g q)) → (e : ℕ) × (key B x ≡ i ∷ suc (position g (B .writes i)) ∷ q ∷ e ∷ [])
-  pair-key i g q x m = ⊎-elim (λ e. (0, ap (key B) e)) (λ e. (1, ap (key B) e)) (in-pair x i g q m)
+  pub pair-key : (i g q : ℕ) (x : Item) → (x ≡ send i g q) ⊎ (x ≡ receive i g q) → (e : ℕ) × (key B x ≡ i ∷ suc (position g (B .writes i)) ∷ q ∷ e ∷ [])
+  pair-key i g q x (inl e) = (0, ap (key B) e)
+  pair-key i g q x (inr e) = (1, ap (key B) e)
 
   -- the items of two transfers of task i, the first before the second
   pairs-sorted : (i g q h r : ℕ) → Sooner (transfer i g q) (transfer i h r) → (x y : Item) →
       In x (pairOf (transfer i g q)) → In y (pairOf (transfer i h r)) → Precedes x y
   pairs-sorted i g q h r l x y m n =
-      let u = pair-key i g q x m in
-      let v = pair-key i h r y n in
+      let u = pair-key i g q x (in-pair x i g q m) in
+      let v = pair-key i h r y (in-pair y i h r n) in
       rw (u .1, v .1) (inr (refl, go (u .0) (v .0) l))
     where
       go : (d e : ℕ) → Sooner (transfer i g q) (transfer i h r) →
@@ -109,7 +110,7 @@ module _ (B : Body) where
       behind : (y : Item) → (t : Transfer) × In t (transfersOf B i) × In y (pairOf t) → Precedes (task i) y
       behind y (t, m, n) =
           let r = transfer-from B i t m in
-          let k = pair-key i (r .region) (r .target) y (subst (λ (z : Transfer). In y (pairOf z)) (r .same) n) in
+          let k = pair-key i (r .region) (r .target) y (in-pair y i (r .region) (r .target) (subst (λ (z : Transfer). In y (pairOf z)) (r .same) n)) in
           rw (k .1) (inr (refl, inl (omega arith)))
 
       between : (t t′ : Transfer) → Sooner t t′ → (x y : Item) → In x (pairOf t) → In y (pairOf t′) → Transferred B i t → Transferred B i t′ → Precedes x y

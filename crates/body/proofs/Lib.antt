@@ -1,10 +1,15 @@
 pub mod Writers
+pub mod Wrapped
 pub mod ItemList
 pub mod ItemCount
+pub mod WrappedCount
 pub mod ItemOrder
 pub mod Numbered
 pub mod Places
+pub mod Accessed
+pub mod Made
 pub mod Holders
 pub mod Simulation
 pub mod Theorems
 pub mod TwoRanks
+pub mod ReadAhead

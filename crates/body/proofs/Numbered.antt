@@ -1,8 +1,9 @@
--- The number of a transfer: counted by the receives before an item of it, it is the transfer's index in the transfer list.
+-- The number of a transfer: counted by the receives before an item of it, it is the transfer's
+-- index in the transfer list.
 use Prim.Native.Nat.{ℕ, zero, suc, _+_, _-_, _≤_, _<_}
 use mathlib.Core.Path.{_≡_, refl, sym, _∙_, ap, subst}
 use mathlib.Core.Logic.{_⊎_, ⊎-elim}
-use mathlib.Core.List.{List, [], _∷_, _++_, flatMap}
+use mathlib.Core.List.{List, [], _∷_, _++_}
 use mathlib.Core.Option.{some, Option·some-injective, Option·none-ne-some}
 use native.Mathlib.Decide.{decLt}
 use native.Mathlib.Omega.{arith}
@@ -10,37 +11,28 @@ use lib.Dec.{eqb}
 use lib.ListN.{length, getD, length-append, List·getD-append}
 use lib.Seq.{getD-append-add}
 use Rattle.finite.specs.Below.{countBelow}
-use Rattle.finite.specs.Lists.{range}
-use Rattle.finite.proofs.Below.{count-add, count-ext}
+use Rattle.finite.proofs.Lists.{count-left, count-right}
 use Rattle.body.specs.Body.{Body}
-use Rattle.body.specs.Transfers.{Transfer, transfer, transfersOf, transferList, transferCount}
-use Rattle.body.specs.Items.{Item, task, send, receive, kindOf, pairOf, block, itemList, itemCount, itemAt, transferOf}
-use Rattle.body.proofs.ItemList.{carried}
+use Rattle.body.specs.Transfers.{Transfer, transfer, transferList, transferCount}
+use Rattle.body.specs.Items.{Item, task, send, receive, kindOf, pairOf, itemList, itemCount, itemAt, transferOf}
+use Rattle.body.proofs.ItemList.{carried, list-ind}
 
 -- how many receives stand among the first a items of a list
 abbrev receives : List Item → ℕ → ℕ
 receives l a = countBelow a (λ b. eqb (kindOf (getD l b (task 0))) 2)
 
--- the transfers of the items l are k: one for each receive, and an item of a transfer finds it behind those of the receives before it
+-- the transfers of the items l are k: one for each receive, and an item of a transfer finds it
+-- behind those of the receives before it
 record Numbered (l : List Item) (k : List Transfer) : Type 0 where
   counted : receives l (length l) ≡ length k
   found : (a : ℕ) (t : Transfer) → a < length l → carried (getD l a (task 0)) ≡ some t →
       (receives l a < length k) × (getD k (receives l a) (transfer 0 0 0) ≡ t)
 
 receives-left : (l m : List Item) (a : ℕ) → a ≤ length l → receives (l ++ m) a ≡ receives l a
-receives-left l m a h =
-    count-ext a (λ b. eqb (kindOf (getD (l ++ m) b (task 0))) 2) (λ b. eqb (kindOf (getD l b (task 0))) 2)
-    (λ b n. ap (λ (x : Item). eqb (kindOf x) 2) (List·getD-append l m (task 0) b (omega arith)))
+receives-left = count-left (λ x. eqb (kindOf x) 2) (task 0)
 
 receives-right : (l m : List Item) (a : ℕ) → receives (l ++ m) (length l + a) ≡ receives l (length l) + receives m a
-receives-right l m a =
-    omega (
-      arith,
-      count-add (length l) a (λ b. eqb (kindOf (getD (l ++ m) b (task 0))) 2),
-      receives-left l m (length l) (omega arith),
-      count-ext a (λ b. eqb (kindOf (getD (l ++ m) (length l + b) (task 0))) 2) (λ b. eqb (kindOf (getD m b (task 0))) 2)
-          (λ b n. ap (λ (x : Item). eqb (kindOf x) 2) (getD-append-add l m b (task 0))),
-    )
+receives-right = count-right (λ x. eqb (kindOf x) 2) (task 0)
 
 numbered-nil : Numbered [] []
 unfolding countBelow
@@ -95,21 +87,8 @@ numbered-append l m j k u v = record { counted = counted; found = found }
               (right (a - length l) t (omega (arith, length-append l m)) (ap (λ (b : ℕ). carried (getD (l ++ m) b (task 0))) s ∙ e)))
         ]
 
-numbered-pairs : (k : List Transfer) → Numbered (flatMap pairOf k) k
-unfolding flatMap
-numbered-pairs [] = numbered-nil
-numbered-pairs (t ∷ k) = numbered-append (pairOf t) (flatMap pairOf k) (t ∷ []) k (numbered-pair t) (numbered-pairs k)
-
 module _ (B : Body) where
-  numbered-blocks : (l : List ℕ) → Numbered (flatMap (block B) l) (flatMap (transfersOf B) l)
-  unfolding flatMap
-  numbered-blocks [] = numbered-nil
-  numbered-blocks (i ∷ l) =
-      numbered-append (block B i) (flatMap (block B) l) (transfersOf B i) (flatMap (transfersOf B) l)
-      (numbered-append (task i ∷ []) (flatMap pairOf (transfersOf B i)) [] (transfersOf B i) (numbered-task i) (numbered-pairs (transfersOf B i)))
-      (numbered-blocks l)
-
   pub numbered : (a i g q : ℕ) → a < itemCount B → (itemAt B a ≡ send i g q) ⊎ (itemAt B a ≡ receive i g q) →
       (transferOf B a < transferCount B) × (getD (transferList B) (transferOf B a) (transfer 0 0 0) ≡ transfer i g q)
   unfolding itemAt itemList transferCount
-  numbered a i g q h e = numbered-blocks (range 0 (B .tasks)) .found a (transfer i g q) h (⊎-elim (λ s. ap carried s) (λ r. ap carried r) e)
+  numbered a i g q h e = list-ind Numbered numbered-nil numbered-task numbered-pair numbered-append B .found a (transfer i g q) h (⊎-elim (λ s. ap carried s) (λ r. ap carried r) e)

@@ -7,7 +7,7 @@ use mathlib.Core.List.{List, [], _∷_, map, flatMap, List·Memᴰ as In}
 use mathlib.Core.Option.{Option, orElse}
 use native.Mathlib.Decide.{decLt, decLe, ℕ-discrete}
 use native.Mathlib.Omega.{arith}
-use Rattle.finite.specs.Below.{anyBelow, sumBelow}
+use Rattle.finite.specs.Below.{allBelow, anyBelow, sumBelow}
 use Rattle.finite.specs.Lists.{mem, distinct, range, gather}
 use Rattle.finite.specs.Update.{update, put}
 use Rattle.finite.proofs.Tests.{true-or-false}
@@ -23,8 +23,8 @@ use Rattle.unroll.proofs.Local.{same-replies, same-run}
 use Rattle.unroll.proofs.EdgeList.{edgesBetween, edges, edges-exactly}
 use Rattle.body.specs.Body.{Fits}
 use Rattle.body.specs.Loop.{taskWord, tasksRun, cellsOf, cellsAt, loopWord, loopFinal}
-use Rattle.body.specs.Transfers.{lastBefore, source, wanted, transferred, transfersOf}
-use Rattle.body.specs.Items.{task, send, receive, itemList, itemAt}
+use Rattle.body.specs.Transfers.{lastBefore, source, wanted, transferred, transfersOf, wrapped}
+use Rattle.body.specs.Items.{task, send, receive, fewer, itemList, itemAt}
 use Rattle.body.specs.Places.{slot, copy, readsOf, writesOf, computeOf, initial, system, resultOf}
 use Rattle.body.specs.TwoRanks.{twoRanks, tenEdges, trace, calls, TwoRanks}
 
@@ -67,12 +67,11 @@ ten-edges : (a b d : ℕ) → Edge (system twoRanks) a b d ↔ In (a, b, d) tenE
 ten-edges a b d = subst (λ (l : List (ℕ × ℕ × ℕ)). Edge (system twoRanks) a b d ↔ In (a, b, d) l) edge-list (edges-exactly (system twoRanks) a b d .1, edges-exactly (system twoRanks) a b d .0)
 
 sixteen : allSteps (system twoRanks) ≡ 16
-unfolding allSteps sumBelow itemList flatMap range gather transfersOf transferred wanted anyBelow source orElse lastBefore mem
+unfolding allSteps sumBelow itemList flatMap range gather transfersOf transferred wanted anyBelow source orElse lastBefore mem itemAt wrapped allBelow fewer
 sixteen = refl
 
 words : map (λ p. map (word (system twoRanks) p) (0 ∷ 1 ∷ 2 ∷ 3 ∷ [])) (0 ∷ 1 ∷ []) ≡ (6 ∷ 6 ∷ 6 ∷ 6 ∷ []) ∷ (7 ∷ 7 ∷ 7 ∷ 13 ∷ []) ∷ []
-unfolding wordOn execute executeTo storeOf storeAt word put decLt itemList flatMap range gather transfersOf transferred wanted anyBelow source orElse
-    lastBefore mem itemAt slot copy readsOf writesOf computeOf initial
+unfolding wordOn execute executeTo storeOf storeAt word put decLt itemList flatMap range gather transfersOf transferred wanted anyBelow source orElse lastBefore mem itemAt wrapped allBelow fewer slot copy readsOf writesOf computeOf initial
 words = refl
 
 loop-words : map (λ p. map (loopWord twoRanks p) (0 ∷ 1 ∷ [])) (0 ∷ 1 ∷ []) ≡ (6 ∷ 6 ∷ []) ∷ (7 ∷ 13 ∷ []) ∷ []
@@ -85,17 +84,11 @@ finals = refl
 
 -- with the test of acceptance that computes, and so with every other
 answered : replies (system twoRanks) (decides (system twoRanks)) (opening (system twoRanks)) calls ≡ map (λ (r : Call × Option ℕ). r .1) trace
-unfolding replies reply step opening startState finishState wordOn update put itemList flatMap range gather transfersOf transferred wanted anyBelow
-    source orElse lastBefore mem itemAt slot copy readsOf writesOf computeOf initial Dec·and true-or-false decLt decLe ℕ-discrete dec-map dec-imp
-    dec-sum dec-then dec-below dec-below-suc dec-some dec-some-cons scan scan-suc last-same last-next last-far last-writer dec-before dec-writes
-    dec-accesses dec-conflict dec-last dec-unwritten dec-through dec-dependence dec-edge dec-met dec-ready dec-start dec-finish
+unfolding replies reply step opening startState finishState wordOn update put itemList flatMap range gather transfersOf transferred wanted anyBelow source orElse lastBefore mem itemAt wrapped allBelow fewer slot copy readsOf writesOf computeOf initial Dec·and true-or-false decLt decLe ℕ-discrete dec-map dec-imp dec-sum dec-then dec-below dec-below-suc dec-some dec-some-cons scan scan-suc last-same last-next last-far last-writer dec-before dec-writes dec-accesses dec-conflict dec-last dec-unwritten dec-through dec-dependence dec-edge dec-met dec-ready dec-start dec-finish
 answered = refl
 
 results : map (resultOf twoRanks (run (system twoRanks) (decides (system twoRanks)) (opening (system twoRanks)) calls)) (0 ∷ 1 ∷ []) ≡ 7 ∷ 13 ∷ []
-unfolding resultOf run step opening startState finishState wordOn update put itemList flatMap range gather transfersOf transferred wanted anyBelow
-    source orElse lastBefore mem itemAt slot copy readsOf writesOf computeOf initial Dec·and true-or-false decLt decLe ℕ-discrete dec-map dec-imp
-    dec-sum dec-then dec-below dec-below-suc dec-some dec-some-cons scan scan-suc last-same last-next last-far last-writer dec-before dec-writes
-    dec-accesses dec-conflict dec-last dec-unwritten dec-through dec-dependence dec-edge dec-met dec-ready dec-start dec-finish
+unfolding resultOf run step opening startState finishState wordOn update put itemList flatMap range gather transfersOf transferred wanted anyBelow source orElse lastBefore mem itemAt wrapped allBelow fewer slot copy readsOf writesOf computeOf initial Dec·and true-or-false decLt decLe ℕ-discrete dec-map dec-imp dec-sum dec-then dec-below dec-below-suc dec-some dec-some-cons scan scan-suc last-same last-next last-far last-writer dec-before dec-writes dec-accesses dec-conflict dec-last dec-unwritten dec-through dec-dependence dec-edge dec-met dec-ready dec-start dec-finish
 results = refl
 
 pub two-ranks : TwoRanks

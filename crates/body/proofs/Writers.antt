@@ -18,10 +18,10 @@ use Rattle.finite.proofs.Lists.{in-gather, in-gather-from}
 use Rattle.unroll.specs.Instances.{earlier, within}
 use Rattle.unroll.proofs.Instances.{before-pass, before-item, between-same, between-next}
 use Rattle.body.specs.Body.{Body}
-use Rattle.body.specs.Transfers.{Transfer, transfer, equals, lastBefore, source, wanted, transferred, transfersOf}
+use Rattle.body.specs.Transfers.{Transfer, transfer, equals, lastBefore, source, served, wanted, transferred, transfersOf}
 use Rattle.body.specs.Meaning.{LastWriter, Source, Reader, IsTransfer}
 
-equals-some : (o : Option ℕ) (i : ℕ) → equals o i ≡ true → o ≡ some i
+pub equals-some : (o : Option ℕ) (i : ℕ) → equals o i ≡ true → o ≡ some i
 equals-some none i h = absurd (not-both h refl)
 equals-some (some j) i h = ap some (eqb-true j i h)
 
@@ -137,21 +137,25 @@ module _ (B : Body) where
 
   -- wanted, transferred
 
+  pub served-reader : (i g q t : ℕ) → t < B .tasks → served B i g q t ≡ true → Reader B i g q t
+  served-reader i g q t l e =
+      let u = and-eq-true-iff (eqb (B .rank t) q) (mem g (B .reads t) && equals (source B t g) i) .0 e in
+      let v = and-eq-true-iff (mem g (B .reads t)) (equals (source B t g) i) .0 (u .1) in
+      record { below = l; placed = eqb-true (B .rank t) q (u .0); reads = v .0; sourced = equals-some (source B t g) i (v .1) }
+
+  pub reader-served : (i g q t : ℕ) → Reader B i g q t → served B i g q t ≡ true
+  reader-served i g q t r = rw (r .placed, eq-eqb q q refl, r .reads, r .sourced) (eq-eqb i i refl)
+
   wanted-reader : (i g q : ℕ) → wanted B i g q ≡ true → (t : ℕ) × Reader B i g q t
   unfolding wanted
-  wanted-reader i g q h = go (any-from (λ t. eqb (B .rank t) q && (mem g (B .reads t) && equals (source B t g) i)) (B .tasks) h)
+  wanted-reader i g q h = go (any-from (λ t. served B i g q t) (B .tasks) h)
     where
-      go : (t : ℕ) × (t < B .tasks) × ((eqb (B .rank t) q && (mem g (B .reads t) && equals (source B t g) i)) ≡ true) → (t : ℕ) × Reader B i g q t
-      go (t, l, e) =
-          let u = and-eq-true-iff (eqb (B .rank t) q) (mem g (B .reads t) && equals (source B t g) i) .0 e in
-          let v = and-eq-true-iff (mem g (B .reads t)) (equals (source B t g) i) .0 (u .1) in
-          (t, record { below = l; placed = eqb-true (B .rank t) q (u .0); reads = v .0; sourced = equals-some (source B t g) i (v .1) })
+      go : (t : ℕ) × (t < B .tasks) × (served B i g q t ≡ true) → (t : ℕ) × Reader B i g q t
+      go (t, l, e) = (t, served-reader i g q t l e)
 
   pub reader-wanted : (i g q t : ℕ) → Reader B i g q t → wanted B i g q ≡ true
   unfolding wanted
-  reader-wanted i g q t r =
-      any-at (λ t. eqb (B .rank t) q && (mem g (B .reads t) && equals (source B t g) i)) (B .tasks) t (r .below)
-      (rw (r .placed, eq-eqb q q refl, r .reads, r .sourced) (eq-eqb i i refl))
+  reader-wanted i g q t r = any-at (λ t. served B i g q t) (B .tasks) t (r .below) (reader-served i g q t r)
 
   pub wanted-transferred : (i g q : ℕ) → (q ≡ B .rank i → ⊥) → wanted B i g q ≡ true → transferred B i g q ≡ true
   unfolding transferred

@@ -6,3 +6,4 @@ pub mod Places
 pub mod Meaning
 pub mod Computes
 pub mod TwoRanks
+pub mod ReadAhead

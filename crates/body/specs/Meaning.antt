@@ -1,17 +1,19 @@
 -- What the definitions of transfers, items and places mean (proved in proofs/Theorems.antt).
-use Prim.Native.Nat.{ℕ, suc, _+_, _*_, _<_}
+use Prim.Native.Nat.{ℕ, suc, _+_, _-_, _*_, _≤_, _<_}
 use mathlib.Core.Path.{_≡_}
 use mathlib.Core.Bool.{true, false}
 use mathlib.Core.Logic.{_⊎_, _↔_}
 use mathlib.Core.List.{List, [], _∷_}
 use mathlib.Core.Option.{none, some}
 use lib.ListN.{getD}
+use Rattle.finite.specs.Below.{sumBelow}
 use Rattle.finite.specs.Lists.{mem, position}
 use Rattle.unroll.specs.Instances.{Before}
 use Rattle.unroll.specs.Edges.{Edge}
+use Rattle.unroll.specs.Meaning.{WaitsMade}
 use Rattle.body.specs.Body.{Body}
-use Rattle.body.specs.Transfers.{transfer, lastBefore, source, transferList, transferCount}
-use Rattle.body.specs.Items.{Item, task, send, receive, itemCount, itemAt, transferOf}
+use Rattle.body.specs.Transfers.{transfer, lastBefore, source, transferList, transferCount, wrapped, wrappedCount}
+use Rattle.body.specs.Items.{Item, task, send, receive, itemCount, itemAt, itemPasses, totalSteps, transferOf}
 use Rattle.body.specs.Places.{slot, copy, initial, system}
 
 -- lexicographic order, of lists of one length
@@ -50,6 +52,11 @@ module _ (B : Body) where
     pub other : q ≡ B .rank i → ⊥
     pub reader : (t : ℕ) × Reader i g q t
 
+  -- the paper's words for a wrapped transfer (02, card 2): every read that it serves stands at or
+  -- before its writer
+  abbrev pub Wrapped : ℕ → ℕ → ℕ → Type 0
+  Wrapped i g q = (t : ℕ) → Reader i g q t → t ≤ i
+
   abbrev pub Listed : Item → Type 0
   Listed x = (a : ℕ) × (a < itemCount B) × (itemAt B a ≡ x)
 
@@ -64,6 +71,20 @@ module _ (B : Body) where
     pub last-writer : (t g j : ℕ) → (lastBefore B t g ≡ some j) ↔ LastWriter t g j
     pub no-writer : (t g : ℕ) → (lastBefore B t g ≡ none) ↔ ((k : ℕ) → k < t → mem g (B .writes k) ≡ false)
     pub sources : (t g j : ℕ) → t < B .tasks → (source B t g ≡ some j) ↔ ((p : ℕ) × Source t g p j)
+    -- the wrapped transfers, the passes of the items, and the total of steps: nothing is taken off
+    -- below 0, and it is two steps for each pass that each item has
+    pub wraps : (i g q : ℕ) → (wrapped B i g q ≡ true) ↔ Wrapped i g q
+    pub task-passes : (a i : ℕ) → itemAt B a ≡ task i → itemPasses B a ≡ B .passes
+    pub wrapped-passes : (a i g q : ℕ) → (itemAt B a ≡ send i g q) ⊎ (itemAt B a ≡ receive i g q) → Wrapped i g q → itemPasses B a ≡ B .passes - 1
+    pub other-passes : (a i g q : ℕ) → (itemAt B a ≡ send i g q) ⊎ (itemAt B a ≡ receive i g q) → (Wrapped i g q → ⊥) → itemPasses B a ≡ B .passes
+    pub total : 1 ≤ B .passes → totalSteps B + 2 * (2 * wrappedCount B) ≡ 2 * (B .passes * itemCount B)
+    pub total-no-pass : B .passes ≡ 0 → totalSteps B ≡ 0
+    pub total-each : totalSteps B ≡ sumBelow (itemCount B) (λ a. 2 * itemPasses B a)
+    -- behind the writer of a wrapped transfer no task writes its region, and none on q reads it
+    pub wrapped-last : (i g q t : ℕ) → IsTransfer i g q → Wrapped i g q → i < t → t < B .tasks →
+        (mem g (B .writes t) ≡ false) × (B .rank t ≡ q → mem g (B .reads t) ≡ false)
+    -- what a made instance waits for is made: nothing waits for a send or receive that is not
+    pub waits-made : WaitsMade (system B)
     -- the items and their order; that each stands once, and a receive right after its send, follows
     pub tasks-listed : (i : ℕ) → Listed (task i) ↔ (i < B .tasks)
     pub sends-listed : (i g q : ℕ) → Listed (send i g q) ↔ IsTransfer i g q

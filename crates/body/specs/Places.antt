@@ -9,7 +9,7 @@ use Rattle.unroll.specs.System.{System}
 use Rattle.unroll.specs.Machine.{State}
 use Rattle.body.specs.Body.{Body, firstSlot}
 use Rattle.body.specs.Transfers.{lastBefore}
-use Rattle.body.specs.Items.{Item, task, send, receive, itemCount, itemAt}
+use Rattle.body.specs.Items.{Item, task, send, receive, itemCount, itemAt, itemPasses}
 
 -- the slot of the transfer whose send is item a
 unfoldable pub slot : ℕ → ℕ
@@ -46,7 +46,7 @@ module _ (B : Body) where
   system =
       record {
         items = itemCount B;
-        passes = λ a. B .passes;
+        passes = λ a. itemPasses B a;
         reads = λ a. readsOf a (itemAt B a);
         writes = λ a. writesOf a (itemAt B a);
         compute = λ a l. computeOf (itemAt B a) l;

@@ -1,11 +1,11 @@
 -- The source of a read, and the transfers between ranks (paper 01, "Transfers and items").
 use Prim.Native.Nat.{ℕ, zero, suc}
-use mathlib.Core.Bool.{Bool, false, cond, not, _&&_}
+use mathlib.Core.Bool.{Bool, false, cond, not, _&&_, _||_}
 use mathlib.Core.List.{List, flatMap}
 use mathlib.Core.Option.{Option, none, some, orElse}
-use lib.Dec.{eqb}
-use lib.ListN.{length}
-use Rattle.finite.specs.Below.{anyBelow}
+use lib.Dec.{eqb, leb}
+use lib.ListN.{length, getD}
+use Rattle.finite.specs.Below.{allBelow, anyBelow, countBelow}
 use Rattle.finite.specs.Lists.{mem, gather, range}
 use Rattle.body.specs.Body.{Body}
 
@@ -29,9 +29,13 @@ module _ (B : Body) where
   unfoldable pub source : ℕ → ℕ → Option ℕ
   source t g = orElse (lastBefore t g) (lastBefore (B .tasks) g)
 
-  -- some task on rank q reads region g with source i
+  -- task t on rank q reads region g with source i
+  abbrev pub served : ℕ → ℕ → ℕ → ℕ → Bool
+  served i g q t = eqb (B .rank t) q && (mem g (B .reads t) && equals (source t g) i)
+
+  -- some task does
   unfoldable pub wanted : ℕ → ℕ → ℕ → Bool
-  wanted i g q = anyBelow (B .tasks) (λ t. eqb (B .rank t) q && (mem g (B .reads t) && equals (source t g) i))
+  wanted i g q = anyBelow (B .tasks) (λ t. served i g q t)
 
   -- for writer i, region g and rank q there is a transfer: q is another rank, and wants the word
   unfoldable pub transferred : ℕ → ℕ → ℕ → Bool
@@ -47,3 +51,21 @@ module _ (B : Body) where
 
   unfoldable pub transferCount : ℕ
   transferCount = length transferList
+
+  -- the transfer is wrapped (paper 02, card 2): every read that it serves stands at or before its
+  -- writer in the body
+  unfoldable pub wrapped : ℕ → ℕ → ℕ → Bool
+  wrapped i g q = allBelow (B .tasks) (λ t. not (served i g q t) || leb t i)
+
+  -- some task on rank q reads region g in the pass in which task i wrote it: there is a transfer
+  -- that is not wrapped. It serves the search for transfers, and nobody need believe it: `wrapped`
+  -- is its opposite (proofs/Wrapped.antt)
+  unfoldable pub forward : ℕ → ℕ → ℕ → Bool
+  forward i g q = anyBelow (B .tasks) (λ t. eqb (B .rank t) q && (mem g (B .reads t) && equals (lastBefore t g) i))
+
+  abbrev pub isWrapped : Transfer → Bool
+  isWrapped (transfer i g q) = wrapped i g q
+
+  -- how many transfers of the body are wrapped
+  unfoldable pub wrappedCount : ℕ
+  wrappedCount = countBelow transferCount (λ k. isWrapped (getD transferList k (transfer 0 0 0)))

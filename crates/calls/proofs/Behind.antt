@@ -1,33 +1,37 @@
 -- What a call answers behind its door, by the tests that are left: w, C and W are the words of the
 -- plan, the counts and the values.
-use Prim.Native.Nat.{ℕ, _+_, _-_, _≤_, _<_}
+use Prim.Native.Nat.{ℕ, _+_, _-_, _*_, _≤_, _<_}
 use mathlib.Core.Path.{_≡_, refl, sym, _∙_, ap, fun-ext}
 use mathlib.Core.Bool.{Bool, true, false, cond, not, _&&_, _||_}
 use mathlib.Core.Logic.{⊎-elim}
 use mathlib.Core.List.{List, []}
+use mathlib.Core.Option.{Option, none, some}
 use native.Mathlib.Numerals.{add-one}
 use native.Mathlib.Omega.{arith}
 use borrow.Author.Tests.{eqb-true, ltb-true, eq-eqb, ne-eqb, lt-ltb, le-ltb, le-leb, not-true, not-false}
 use lib.Dec.{eqb, ltb, leb}
 use lib.ListN.{length, getD, set, take, drop, length-drop}
 use lib.Seq.{take-all, getD-drop}
-use Rattle.finite.specs.Below.{allBelow}
+use Rattle.finite.specs.Below.{allBelow, sumBelow}
 use Rattle.finite.specs.Lists.{mem}
 use Rattle.finite.specs.Update.{replaced}
 use Rattle.finite.proofs.Tests.{and-true, or-cases}
-use Rattle.finite.proofs.Below.{all-of}
+use Rattle.finite.proofs.Below.{all-of, all-ext, sum-ext}
 use Rattle.unroll.specs.Sequential.{wordOn}
+use Rattle.unroll.specs.AnyOrder.{allSteps}
 use Rattle.body.specs.Body.{Body}
-use Rattle.body.specs.Items.{itemCount}
+use Rattle.body.specs.Items.{itemCount, itemPasses, totalSteps}
 use Rattle.body.specs.Transfers.{lastBefore}
 use Rattle.body.specs.Places.{initial, system, resultFrom, resultOf as regionResult}
-use mathlib.Core.Option.{Option, none, some}
+use Rattle.body.proofs.WrappedCount.{all-steps}
 use Rattle.edges.specs.Tests.{waitsTest}
 use Rattle.plan.specs.Limits.{maxPasses}
 use Rattle.plan.specs.Sizes.{countWords, valueWords, firstFinished, firstHeld}
 use Rattle.plan.specs.Layout.{planWords, bodyOf, passesOf, regionsOf}
+use Rattle.plan.specs.Code.{codeFewer}
 use Rattle.graph.specs.Table.{Graph}
 use Rattle.graph.specs.Answers.{refusalOf, planBody, isItem}
+use Rattle.graph.proofs.Lookup.{code-passes}
 use Rattle.steps.specs.State.{stateOf}
 use Rattle.steps.specs.Answers.{Left, countOk, isComplete, startTests, finishTests, formedCounts, longSlices, callRefusal, refused}
 use Rattle.steps.specs.Answers.{started, startOf, finished, finishOf, shown, resultOf, isCopy, isSlot, isHeld, openOf}
@@ -76,6 +80,19 @@ module _ (w table : List ℕ) (n : ℕ) (G : Graph w table n) where
   pub found-at : (a code : ℕ) → a < n → code ≡ getD table a 0 → Found w a code
   found-at a code l e = record { plan = graph-formed; below = omega (arith, G .count); coded = e ∙ G .each a l }
 
+  -- the passes of an item, by its code
+  pub own-passes : (passes : ℕ) → passes ≡ passesOf w → (a : ℕ) → a < n → (own : ℕ) → own ≡ passes - codeFewer (getD table a 0) → own ≡ itemPasses (bodyOf w) a
+  own-passes passes p a l own e = e ∙ (ap (λ (k : ℕ). k - codeFewer (getD table a 0)) p ∙ code-passes w table n G a l (getD table a 0) refl)
+
+  -- two steps for each of them
+  pub total-is : (passes : ℕ) → passes ≡ passesOf w → (steps : ℕ) → steps ≡ sumBelow n (λ a. 2 * (passes - codeFewer (getD table a 0))) → steps ≡ totalSteps (bodyOf w)
+  unfolding allSteps
+  total-is passes p steps e =
+      e
+      ∙ (sum-ext n (λ a. 2 * (passes - codeFewer (getD table a 0))) (λ a. 2 * itemPasses (bodyOf w) a)
+      (λ a l. ap (λ (k : ℕ). 2 * k) (own-passes passes p a l (passes - codeFewer (getD table a 0)) refl))
+      ∙ (ap (λ (m : ℕ). sumBelow m (λ a. 2 * itemPasses (bodyOf w) a)) (G .count) ∙ all-steps (bodyOf w)))
+
   module _ (C W : List ℕ) (c : countWords ≤ length C) (v : valueWords ≤ length W) where
     long : longSlices w C W ≡ true
     long = rw (le-leb planWords (length w) (omega (arith, G .long)), le-leb countWords (length C) c, le-leb valueWords (length W) v)
@@ -93,7 +110,7 @@ module _ (w C table : List ℕ) (n : ℕ) (K : Clear w C table n) (W : List ℕ)
 
   formed-counts : formedCounts w C W ≡ true
   formed-counts =
-      rw (whole w table n G) (all-of (countOk (passesOf w) (stateOf C W)) (itemCount (bodyOf w)) (λ a l. K .counts-ok a (omega (arith, G .count))))
+      rw (whole w table n G) (all-of (λ a. countOk (itemPasses (bodyOf w) a) (stateOf C W) a) (itemCount (bodyOf w)) (λ a l. K .counts-ok a (omega (arith, G .count))))
 
   -- only the number is left to be tested
   call-is : (t : Bool) → callRefusal w C W t ≡ refusalOf true true t
@@ -127,14 +144,17 @@ module _ (w C table : List ℕ) (n : ℕ) (K : Clear w C table n) (W : List ℕ)
     unfolding finishOf
     finish-tested = rw (call-is (isItem w item), item-is item, lt-ltb item n below, ← at)
 
-    -- a start, by the passes that the item has started and finished
-    module _ (passes : ℕ) (p : passes ≡ passesOf w) where
-      pub start-done : passes ≤ getD C (firstFinished + a) 0 → refused w C W 14 ≡ startOf w C W item
-      start-done l = sym (start-tested ∙ rw (le-ltb (getD C (firstFinished + a) 0) (passesOf w) (omega (arith, p))))
+    -- a start, by the passes that the item has, and has started and finished
+    module _ (passes own : ℕ) (p : passes ≡ passesOf w) (o : own ≡ passes - codeFewer (getD table a 0)) where
+      has : own ≡ itemPasses (bodyOf w) a
+      has = own-passes w table n G passes p a item-below own o
 
-      module _ (left : getD C (firstFinished + a) 0 < passes) where
-        has-left : ltb (getD C (firstFinished + a) 0) (passesOf w) ≡ true
-        has-left = lt-ltb (getD C (firstFinished + a) 0) (passesOf w) (omega (arith, p))
+      pub start-done : own ≤ getD C (firstFinished + a) 0 → refused w C W 14 ≡ startOf w C W item
+      start-done l = sym (start-tested ∙ rw (le-ltb (getD C (firstFinished + a) 0) (itemPasses (bodyOf w) a) (omega (arith, has))))
+
+      module _ (left : getD C (firstFinished + a) 0 < own) where
+        has-left : ltb (getD C (firstFinished + a) 0) (itemPasses (bodyOf w) a) ≡ true
+        has-left = lt-ltb (getD C (firstFinished + a) 0) (itemPasses (bodyOf w) a) (omega (arith, has))
 
         pub start-running : (getD C a 0 ≡ getD C (firstFinished + a) 0 → ⊥) → refused w C W 15 ≡ startOf w C W item
         start-running r = sym (start-tested ∙ rw (has-left, ne-eqb (getD C a 0) (getD C (firstFinished + a) 0) r))
@@ -160,7 +180,7 @@ module _ (w C table : List ℕ) (n : ℕ) (K : Clear w C table n) (W : List ℕ)
           start-made h x e = e ∙ sym (start-tested ∙ rw (tests-are, not-false met h))
 
           pub start-asks : (code : ℕ) → code ≡ getD table a 0 → Found w a code × (countWords ≤ length C) × (valueWords ≤ length W) × (getD C a 0 < maxPasses)
-          start-asks code e = (found-at w table n G a code item-below e, K .room, v, omega (arith, p, passes-most w table n G))
+          start-asks code e = (found-at w table n G a code item-below e, K .room, v, omega (arith, has, passes-most w table n G))
 
     -- a finish
     pub finish-idle : getD C a 0 ≡ getD C (firstFinished + a) 0 → refused w C W 17 ≡ finishOf w C W item
@@ -182,14 +202,18 @@ module _ (w C table : List ℕ) (n : ℕ) (K : Clear w C table n) (W : List ℕ)
         found-at w table n G a code item-below e,
         K .room,
         v,
-        omega (arith, started-one (getD C a 0) (getD C (firstFinished + a) 0) (passesOf w) (K .counts-ok a item-below) runs, passes-most w table n G),
+        omega (arith, started-one (getD C a 0) (getD C (firstFinished + a) 0) (itemPasses (bodyOf w) a) (K .counts-ok a item-below) runs, passes-most w table n G),
       )
 
   -- a result
   module _ (region : ℕ) (below : region < regionsOf w) (passes : ℕ) (p : passes ≡ passesOf w) (ok : Bool)
-      (o : ok ≡ allBelow n (λ a. eqb (getD C (firstFinished + a) 0) passes)) where
+      (o : ok ≡ allBelow n (λ a. eqb (getD C (firstFinished + a) 0) (passes - codeFewer (getD table a 0)))) where
     complete-is : ok ≡ isComplete (bodyOf w) (stateOf C W)
-    complete-is = o ∙ rw (G .count, p)
+    complete-is =
+        o
+        ∙ (all-ext n (λ a. eqb (getD C (firstFinished + a) 0) (passes - codeFewer (getD table a 0))) (λ a. eqb (getD C (firstFinished + a) 0) (itemPasses (bodyOf w) a))
+        (λ a l. ap (eqb (getD C (firstFinished + a) 0)) (own-passes w table n G passes p a l (passes - codeFewer (getD table a 0)) refl))
+        ∙ rw (G .count))
 
     result-tested : resultOf w C W region ≡ cond ok (shown w C W region) (refused w C W 18)
     unfolding resultOf

@@ -1,20 +1,21 @@
 -- What the doors answer, by the tests on the way: P and C are the lent plan and counts.
-use Prim.Native.Nat.{ℕ, _≤_}
-use mathlib.Core.Path.{_≡_, refl, sym, _∙_, ap, subst}
+use Prim.Native.Nat.{ℕ, _-_, _≤_}
+use mathlib.Core.Path.{_≡_, refl, sym, _∙_, ap}
 use mathlib.Core.Bool.{Bool, true, false, cond, not, _&&_, _||_, and-false}
 use mathlib.Core.Logic.{⊎-elim}
 use mathlib.Core.List.{List, [], _++_}
 use native.Mathlib.Omega.{arith}
 use borrow.Author.Tests.{ltb-true, ltb-false, leb-true, lt-leb, le-leb, not-true, not-false}
 use lib.Dec.{ltb, leb}
-use lib.ListN.{length, take, drop}
+use lib.ListN.{length, getD, take, drop}
 use lib.Seq.{length-take-le}
 use Rattle.finite.specs.Below.{allBelow}
-use Rattle.finite.proofs.Below.{all-at}
+use Rattle.finite.proofs.Below.{all-at, all-ext}
 use Rattle.finite.proofs.Tests.{or-cases, or-parts, and-true}
-use Rattle.body.specs.Items.{itemCount}
+use Rattle.body.specs.Items.{itemCount, itemPasses}
 use Rattle.plan.specs.Sizes.{countWords}
 use Rattle.plan.specs.Layout.{planWords, passesOf}
+use Rattle.plan.specs.Code.{codeFewer}
 use Rattle.graph.specs.Table.{tableOf, Graph}
 use Rattle.graph.specs.Answers.{refusalOf, longPlan, formedPlan, planBody}
 use Rattle.steps.specs.State.{stateOf}
@@ -23,6 +24,7 @@ use Rattle.items.specs.declared.Made.{Made}
 use Rattle.items.proofs.Coding.{table-graph}
 use Rattle.calls.specs.declared.Entry.{Entry}
 use Rattle.calls.specs.Doors.{ByPlan, ByState}
+use Rattle.calls.proofs.Behind.{own-passes}
 
 -- a refusal is no other where more is tested, once there is one
 same-refused : (l f g : Bool) → (refusalOf l f true ≡ 0 → ⊥) → refusalOf l f true ≡ refusalOf l (f && g) true
@@ -128,9 +130,16 @@ module _ (P C table : List ℕ) (long : Bool) (r : Entry) (table′ : List ℕ) 
     filled : table′ ≡ cond (all-slices && formedPlan P) (tableOf (planBody P) ++ drop (itemCount (planBody P)) table) table
     filled = B .listed z ∙ rw (passed .0, passed .1, lent-graph .count)
 
-    module _ (passes : ℕ) (p : passes ≡ passesOf (take planWords P)) (ok : Bool) (o : ok ≡ allBelow (r .items) (countOk passes (stateOf C []))) where
+    module _ (passes : ℕ) (p : passes ≡ passesOf (take planWords P)) (ok : Bool)
+        (o : ok ≡ allBelow (r .items) (λ a. countOk (passes - codeFewer (getD table′ a 0)) (stateOf C []) a)) where
+      by-own : ok ≡ allBelow (r .items) (λ a. countOk (itemPasses (planBody P) a) (stateOf C []) a)
+      by-own =
+          o
+          ∙ all-ext (r .items) (λ a. countOk (passes - codeFewer (getD table′ a 0)) (stateOf C []) a) (λ a. countOk (itemPasses (planBody P) a) (stateOf C []) a)
+          (λ a l. ap (λ (k : ℕ). countOk k (stateOf C []) a) (own-passes (take planWords P) table′ (r .items) lent-graph passes p a l (passes - codeFewer (getD table′ a 0)) refl))
+
       counted : ok ≡ formedCounts P C []
-      counted = o ∙ rw (lent-graph .count, p)
+      counted = by-own ∙ rw (lent-graph .count)
 
       pub state-unformed : (s : Entry) → ok ≡ false → s ≡ record { refusal = 12; items = 0 } → ByState P C long table s table′
       state-unformed s u e =
@@ -149,8 +158,7 @@ module _ (P C table : List ℕ) (long : Bool) (r : Entry) (table′ : List ℕ) 
                 record {
                   graph = lent-graph;
                   room = lent-counts;
-                  counts-ok = λ a l. all-at (countOk (passesOf (take planWords P)) (stateOf C [])) (r .items) a
-                      (subst (λ (x : ℕ). allBelow (r .items) (countOk x (stateOf C [])) ≡ true) p (sym o ∙ u)) l;
+                  counts-ok = λ a l. all-at (λ a. countOk (itemPasses (planBody P) a) (stateOf C []) a) (r .items) a (sym by-own ∙ u) l;
                 };
             listed = filled;
             refused = λ k. absurd (k z);

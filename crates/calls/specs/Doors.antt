@@ -6,8 +6,8 @@ use mathlib.Core.Bool.{Bool, true, cond, _&&_}
 use mathlib.Core.List.{List, [], _++_}
 use lib.Dec.{leb}
 use lib.ListN.{length, take, drop}
-use Rattle.body.specs.Items.{itemCount}
-use Rattle.plan.specs.Layout.{planWords, passesOf}
+use Rattle.body.specs.Items.{itemCount, itemPasses}
+use Rattle.plan.specs.Layout.{planWords, bodyOf}
 use Rattle.plan.specs.Sizes.{countWords}
 use Rattle.graph.specs.Table.{tableOf, Graph}
 use Rattle.graph.specs.Answers.{refusalOf, longPlan, formedPlan, planBody}
@@ -26,7 +26,7 @@ pub record ByPlan (P : List ℕ) (long : Bool) (table : List ℕ) (r : Entry) (t
 pub record Clear (w counts table : List ℕ) (n : ℕ) : Type 0 where
   pub graph : Graph w table n
   pub room : countWords ≤ length counts
-  pub counts-ok : (a : ℕ) → a < n → countOk (passesOf w) (stateOf counts []) a ≡ true
+  pub counts-ok : (a : ℕ) → a < n → countOk (itemPasses (bodyOf w) a) (stateOf counts []) a ≡ true
 
 -- by the plan P and the counts
 pub record ByState (P counts : List ℕ) (long : Bool) (table : List ℕ) (r : Entry) (table′ : List ℕ) : Type 0 where

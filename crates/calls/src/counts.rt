@@ -1,6 +1,6 @@
 // The counts of started and finished passes: whether they are in form, and whether the loop is
 // complete; their opening.
-ghost use Prim.Native.Nat.{_+_, _≤_, _<_};
+ghost use Prim.Native.Nat.{_+_, _-_, _≤_, _<_};
 ghost use mathlib.Core.Path.{_≡_};
 ghost use mathlib.Core.Bool.{_&&_, _||_};
 ghost use mathlib.Core.List.{[]};
@@ -10,13 +10,15 @@ ghost use Rattle.finite.specs.Below.{allBelow};
 ghost use Rattle.finite.specs.Update.{replaced};
 ghost use Rattle.plan.specs.Limits.{maxPasses};
 ghost use Rattle.plan.specs.Sizes.{maxItems, countWords, firstFinished};
+ghost use Rattle.plan.specs.Code.{codeFewer};
 ghost use Rattle.steps.specs.State.{stateOf};
 ghost use Rattle.steps.specs.Answers.{countOk};
 use plan::state::Count;
 use plan::state::FIRST_FINISHED;
+use plan::state::own_passes;
 
-// Whether an item's counts are in form: no more passes finished than there are, and as many
-// started, or one more with a pass left.
+// Whether the counts of an item with so many passes are in form: no more finished than it has, and
+// as many started, or one more with a pass left.
 fn is_formed(started: Count, finished: Count, passes: Count) -> bool
     requires { ⌜ passes ≤ maxPasses ⌝ }
     ensures { λ r. ⌜ r ≡ (leb finished passes && (eqb started finished || (eqb started (finished + 1) && ltb finished passes))) ⌝ }
@@ -25,29 +27,35 @@ fn is_formed(started: Count, finished: Count, passes: Count) -> bool
     (finished <= passes) & ((started == finished) | ((started == next) & (finished < passes)))
 }
 
-// Whether the counts of all n items are.
-pub(crate) fn are_formed(counts: &[Count], passes: Count, n: usize) -> bool
-    requires { ⌜ (countWords ≤ length (now counts)) × (passes ≤ maxPasses) × (n ≤ maxItems) ⌝ }
-    ensures { λ r. ⌜ r ≡ allBelow n (countOk passes (stateOf (now (counts .entry)) [])) ⌝ }
+// Whether the counts of all n items of a table are.
+pub(crate) fn are_formed(counts: &[Count], table: &[u16], passes: Count, n: usize) -> bool
+    requires { ⌜ (countWords ≤ length (now counts)) × (n ≤ length (now table)) × (passes ≤ maxPasses) × (n ≤ maxItems) ⌝ }
+    ensures { λ r. ⌜
+        r ≡ allBelow n (λ a. countOk (passes - codeFewer (getD (now (table .entry)) a 0)) (stateOf (now (counts .entry)) []) a)
+        ⌝ }
 {
     let mut formed = true;
     let mut a: usize = 0;
     while a < n {
-        formed = formed & is_formed(counts[a], counts[FIRST_FINISHED + a], passes);
+        let own = own_passes(passes, table[a]);
+        formed = formed & is_formed(counts[a], counts[FIRST_FINISHED + a], own);
         a += 1;
     }
     formed
 }
 
-// Whether all n items have finished all passes.
-pub(crate) fn are_complete(counts: &[Count], passes: Count, n: usize) -> bool
-    requires { ⌜ (countWords ≤ length (now counts)) × (n ≤ maxItems) ⌝ }
-    ensures { λ r. ⌜ r ≡ allBelow n (λ a. eqb (getD (now (counts .entry)) (firstFinished + a) 0) passes) ⌝ }
+// Whether all n items of a table have finished the passes that they have.
+pub(crate) fn are_complete(counts: &[Count], table: &[u16], passes: Count, n: usize) -> bool
+    requires { ⌜ (countWords ≤ length (now counts)) × (n ≤ length (now table)) × (n ≤ maxItems) ⌝ }
+    ensures { λ r. ⌜
+        r ≡ allBelow n (λ a. eqb (getD (now (counts .entry)) (firstFinished + a) 0) (passes - codeFewer (getD (now (table .entry)) a 0)))
+        ⌝ }
 {
     let mut complete = true;
     let mut a: usize = 0;
     while a < n {
-        complete = complete & (counts[FIRST_FINISHED + a] == passes);
+        let own = own_passes(passes, table[a]);
+        complete = complete & (counts[FIRST_FINISHED + a] == own);
         a += 1;
     }
     complete

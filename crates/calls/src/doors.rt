@@ -62,7 +62,8 @@ pub fn enter_state(plan: &[u64], counts: &[Count], long: bool, table: &mut [u16]
     if entry.refusal != 0 {
         return entry;
     }
-    if are_formed(counts, pass_count(&plan[..PLAN_WORDS]), entry.items) {
+    let passes = pass_count(&plan[..PLAN_WORDS]);
+    if are_formed(counts, table, passes, entry.items) {
         return entry;
     }
     no_entry(12)

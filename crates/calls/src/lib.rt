@@ -9,6 +9,7 @@ pub mod finishes;
 pub mod openings;
 pub mod results;
 pub mod starts;
+pub mod totals;
 
 // What a door answers: the refusal, 0 if there is none, and then the number of items.
 pub struct Entry {

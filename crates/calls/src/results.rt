@@ -33,7 +33,7 @@ pub fn result_clear(
     if regions_of(plan) <= region {
         return no_word(13);
     }
-    if !are_complete(counts, pass_count(plan), n) {
+    if !are_complete(counts, table, pass_count(plan), n) {
         return no_word(18);
     }
     Answer {

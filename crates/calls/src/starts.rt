@@ -18,6 +18,7 @@ use plan::state::Count;
 use plan::state::FIRST_FINISHED;
 use plan::state::FIRST_HELD;
 use plan::state::MAX_ITEMS;
+use plan::state::own_passes;
 use values::places::item_word;
 use walk::waits::waits_met;
 
@@ -67,7 +68,7 @@ pub fn start_clear(
     let a = as_index(item);
     let pass = counts[a];
     let done = counts[FIRST_FINISHED + a];
-    if pass_count(plan) <= done {
+    if own_passes(pass_count(plan), table[a]) <= done {
         return no_word(14);
     }
     if pass != done {

@@ -2,7 +2,7 @@
 use Prim.Native.Nat.{ℕ, zero, suc, _+_, _-_, _≤_, _<_}
 use mathlib.Core.Path.{_≡_, refl, sym, _∙_, ap, subst}
 use mathlib.Core.Bool.{Bool, true, false, cond, not, _&&_, _||_, or-true}
-use mathlib.Core.Logic.{_⊎_, ⊎-elim, _↔_}
+use mathlib.Core.Logic.{_⊎_, inl, ⊎-elim, _↔_}
 use native.Mathlib.Decide.{decLt, ℕ-discrete}
 use native.Mathlib.Omega.{arith}
 use borrow.Author.Tests.{eqb-true, eq-eqb, ne-eqb, lt-ltb, le-ltb, le-leb, leb-true, ltb-true, not-true}
@@ -12,17 +12,21 @@ use Rattle.finite.proofs.Below.{all-at, all-of, any-at, any-from, any-never}
 use Rattle.unroll.specs.Instances.{earlier, within}
 use Rattle.unroll.specs.System.{System, Accesses, writing, Writes}
 use Rattle.unroll.specs.Edges.{Conflict, Unwritten, Dependence, Edge, rule, reuse}
+use Rattle.unroll.specs.Machine.{State}
+use Rattle.unroll.specs.Meaning.{StartRule}
 use Rattle.unroll.proofs.Instances.{before-item}
 use Rattle.unroll.proofs.LastWriter.{unwritten-same, unwritten-next}
 use Rattle.unroll.proofs.Edges.{edge-distance, edge-from, edge-within, conflict-written, conflict-writes}
+use Rattle.unroll.proofs.Theorems.{finished-rule}
 use Rattle.body.specs.Body.{Body, Fits}
-use Rattle.body.specs.Items.{itemCount, itemAt}
+use Rattle.body.specs.Items.{itemCount, itemAt, itemPasses}
 use Rattle.body.specs.Places.{slot, copy, system}
+use Rattle.body.proofs.Accessed.{Place, of-copy, of-send, of-receive, place-of, rank-below, send-kind, receive-kind, send-slot, receive-slot, slot-users}
+use Rattle.body.proofs.Made.{waits-made}
 use Rattle.edges.specs.Touch.{touchOn}
 use Rattle.edges.specs.Tests.{written, writtenBetween, crossed, distance, kindAt, rankAt, paired, copyEdge, edgeTest, metTest, waitsTest}
 use Rattle.edges.specs.Rule.{WaitsMet}
-use Rattle.edges.proofs.Touches.{Place, of-copy, of-send, of-receive, place-of, rank-below, touch-most, writes-touch, touch-writes, accesses-touch, touch-accesses, touch-region}
-use Rattle.edges.proofs.Touches.{send-kind, receive-kind, send-slot, receive-slot, slot-users}
+use Rattle.edges.proofs.Touches.{touch-most, writes-touch, touch-writes, accesses-touch, touch-accesses, touch-region}
 
 pub distance-later : (a b : ℕ) → a < b → distance a b ≡ 0
 distance-later a b l = rw (lt-ltb a b l)
@@ -30,7 +34,8 @@ distance-later a b l = rw (lt-ltb a b l)
 pub distance-next : (a b : ℕ) → b ≤ a → distance a b ≡ 1
 distance-next a b l = rw (le-ltb a b l)
 
--- an edge has no other distance: where a stands before b, the writer of the two has an instance between theirs in two passes
+-- an edge has no other distance: where a stands before b, the writer of the two has an instance
+-- between theirs in two passes
 pub edge-distance-is : (S : System) (a b d : ℕ) → Edge S a b d → d ≡ distance a b
 edge-distance-is S a b d (reuse l e h) = h ∙ sym (distance-next a b (omega arith))
 edge-distance-is S a b d (rule e) =
@@ -311,3 +316,17 @@ module _ (B : Body) (F : Fits B) (few : B .regions ≤ 128) (fin : ℕ → ℕ) 
 
 pub waits-decided : (B : Body) → Fits B → B .regions ≤ 128 → (fin : ℕ → ℕ) (a p : ℕ) → a < itemCount B → (waitsTest B fin p a ≡ true) ↔ WaitsMet B fin a p
 waits-decided B F few fin a p la = (test-waits B F few fin a p la, waits-test B F few fin a p la)
+
+-- a start, in a pass that the item has: every instance that it waits for is made, so the rule of a
+-- start asks for their finishes
+pub rule-waits : (B : Body) → Fits B → (s : State) (a : ℕ) → StartRule (system B) s a → WaitsMet B (s .finished) a (s .started a)
+rule-waits B F s a r =
+    record {
+      same-pass = λ b e. finished-rule (system B) (waits-made B F) s a b 0 (s .started a) r e (omega arith);
+      pass-before = λ b p e h. finished-rule (system B) (waits-made B F) s a b 1 p r e (omega arith);
+    }
+
+pub waits-rule : (B : Body) (s : State) (a : ℕ) → a < itemCount B → s .finished a < itemPasses B a → s .started a ≡ s .finished a →
+    WaitsMet B (s .finished) a (s .started a) → StartRule (system B) s a
+waits-rule B s a l m i w =
+    record { in-range = l; left = m; idle = i; same-pass = λ b e. inl (w .same-pass b e); pass-before = λ b p e h. inl (w .pass-before b p e h) }

@@ -22,8 +22,11 @@ module _ (B : Body) where
     pub exactly : (a b d : ℕ) → In (a, b, d) l ↔ Edge (system B) a b d
     pub ordered : (i j : ℕ) → i < j → j < length l → Ahead (getD l i (0, 0, 0)) (getD l j (0, 0, 0))
 
-  -- the finished passes of the items meet every wait of item a before its pass p: every edge into a at distance 0 has its source finished
-  -- in pass p, and every one at distance 1 in the pass before, if there is one
+  -- the finished passes of the items meet every wait of item a before its pass p: every edge into a
+  -- at distance 0 has its source finished in pass p, and every one at distance 1 in the pass
+  -- before, if there is one. In a pass that a has, all these instances are made (body, Meaning
+  -- .waits-made), so that this is the rule of a start (unroll, StartRule), where a wait for one
+  -- that is not made counts as met
   pub record WaitsMet (finished : ℕ → ℕ) (a p : ℕ) : Type 0 where
     pub same-pass : (b : ℕ) → Edge (system B) b a 0 → p < finished b
     pub pass-before : (b r : ℕ) → Edge (system B) b a 1 → p ≡ suc r → r < finished b

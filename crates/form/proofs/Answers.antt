@@ -13,7 +13,7 @@ use Rattle.plan.specs.Form.{inForm, wordsOk}
 use Rattle.plan.specs.Layout.{bodyOf}
 use Rattle.form.proofs.Bound.{transfers-bounded}
 use Rattle.plan.proofs.Facts.{formed}
-use Rattle.transfers.proofs.Tally.{count-found, ones-flags}
+use Rattle.transfers.proofs.Tally.{count-found}
 
 module _ (w : List ℕ) (ok : Bool) (e : ok ≡ wordsOk w) where
   pub fine : not ok ≡ false → wordsOk w ≡ true
@@ -28,7 +28,7 @@ module _ (w : List ℕ) (ok : Bool) (e : ok ≡ wordsOk w) where
   form-few changes h c l =
       let f = formed w (fine h) in
       let n : changes ≡ changeCount w = c ∙ rw (not-false ok h) in
-      rw (fine h, le-leb (transferCount (bodyOf w)) maxTransfers (omega (arith, n, transfers-bounded w f, ones-flags w f, count-found w f)))
+      rw (fine h, le-leb (transferCount (bodyOf w)) maxTransfers (omega (arith, n, transfers-bounded w f, count-found w f)))
 
   -- the masks where the words fail, and where they do not
   pub masks-not : (xs ys : List ℕ) → not ok ≡ true → xs ≡ cond (wordsOk w) ys xs

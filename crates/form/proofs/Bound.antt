@@ -16,7 +16,7 @@ use Rattle.finite.proofs.Members.{at-in, in-mem, mem-gather}
 use Rattle.finite.proofs.Tabulate.{distinct-tabulate}
 use Rattle.finite.proofs.Tests.{and-true, not-both}
 use Rattle.body.specs.Transfers.{equals, source, transferred, wanted}
-use Rattle.transfers.specs.Search.{planFlags}
+use Rattle.transfers.specs.Search.{accessFlags}
 use Rattle.form.specs.Changes.{changeCount, changed}
 use Rattle.plan.specs.Layout.{accessesOf, at, bodyOf, isRead, isWritten, rankOf, ranksOf, readsOf, regionAt, tasksOf}
 use Rattle.transfers.specs.Wanted.{wantedAt}
@@ -122,8 +122,8 @@ module _ (w : List ℕ) where
               rw (d, m, T .region, s, access-is i a hi ha, T .ranked) (omega arith),
             )
 
-    pub transfers-bounded : countBelow planFlags (λ k. wantedAt w (k / 128) (k / 16 % 8) (k % 16)) ≤ changeCount w
+    pub transfers-bounded : countBelow accessFlags (λ k. wantedAt w (k / 128) (k / 16 % 8) (k % 16)) ≤ changeCount w
     transfers-bounded =
-        let c : countBelow planFlags (λ k. wantedAt w (k / 128) (k / 16 % 8) (k % 16)) ≤ countBelow (128 * 8) changedAt =
-        count-cover planFlags (128 * 8) (λ k. wantedAt w (k / 128) (k / 16 % 8) (k % 16)) changedAt flagFor (λ k l h. covered k (k / 128) (k / 16 % 8) (k % 16) refl refl refl h) in
+        let c : countBelow accessFlags (λ k. wantedAt w (k / 128) (k / 16 % 8) (k % 16)) ≤ countBelow (128 * 8) changedAt =
+        count-cover accessFlags (128 * 8) (λ k. wantedAt w (k / 128) (k / 16 % 8) (k % 16)) changedAt flagFor (λ k l h. covered k (k / 128) (k / 16 % 8) (k % 16) refl refl refl h) in
         omega (arith, changes-flat)

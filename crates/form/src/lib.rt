@@ -5,7 +5,7 @@ ghost use mathlib.Core.Bool.{cond};
 ghost use lib.ListN.{length, replicate};
 ghost use Rattle.plan.specs.Layout.{planWords};
 ghost use Rattle.plan.specs.Form.{inForm, wordsOk};
-ghost use Rattle.transfers.specs.Wanted.{planMasks, wantedMasks};
+ghost use Rattle.transfers.specs.Wanted.{planMasks, wantedMasks, wrappedMasks};
 
 mod words;
 
@@ -29,18 +29,22 @@ pub fn in_form(words: &[u64]) -> bool
     transfer_count(words) <= MAX_TRANSFERS
 }
 
-// Whether the words are in form. Puts the masks of their transfers where there are zeros, also
-// where the transfers are too many; where the words fail otherwise, the zeros stay.
-pub fn find_masks(words: &[u64], wanted: &mut [u16]) -> bool
-    requires { ⌜ (length (now words) ≡ planWords) × (now wanted ≡ replicate planMasks 0) ⌝ }
+// Whether the words are in form. Puts the masks of their transfers, and those of the wrapped ones,
+// where there are zeros, also where the transfers are too many; where the words fail otherwise, the
+// zeros stay.
+pub fn find_masks(words: &[u64], masks: &mut [u16], wrapped: &mut [u16]) -> bool
+    requires { ⌜
+        (length (now words) ≡ planWords) × (now masks ≡ replicate planMasks 0) × (now wrapped ≡ replicate planMasks 0)
+        ⌝ }
     ensures { λ r. ⌜
         (r ≡ inForm (now (words .entry)))
-        × (now (wanted .exit) ≡ cond (wordsOk (now (words .entry))) (wantedMasks (now (words .entry))) (now (wanted .entry)))
+        × (now (masks .exit) ≡ cond (wordsOk (now (words .entry))) (wantedMasks (now (words .entry))) (now (masks .entry)))
+        × (now (wrapped .exit) ≡ cond (wordsOk (now (words .entry))) (wrappedMasks (now (words .entry))) (now (wrapped .entry)))
         ⌝ }
 {
     let checked = words::words_ok(words);
     if !checked.ok {
         return false;
     }
-    find_transfers(words, wanted) <= MAX_TRANSFERS
+    find_transfers(words, masks, wrapped) <= MAX_TRANSFERS
 }

@@ -1,17 +1,17 @@
 -- What the item table says of an item.
-use Prim.Native.Nat.{ℕ, _≤_, _<_}
+use Prim.Native.Nat.{ℕ, _-_, _≤_, _<_}
 use mathlib.Core.Path.{_≡_, refl, sym, _∙_, ap}
 use mathlib.Core.List.{List}
 use native.Mathlib.Omega.{arith}
 use lib.ListN.{getD}
 use Rattle.body.specs.Body.{Fits}
-use Rattle.body.specs.Items.{Item, task, send, receive, kindOf, itemAt}
+use Rattle.body.specs.Items.{Item, task, send, receive, kindOf, fewer, itemAt, itemPasses}
 use Rattle.body.proofs.ItemList.{tasks-listed}
+use Rattle.body.proofs.Accessed.{Known, item-known, rank-below}
 use Rattle.edges.specs.Tests.{kindAt, rankAt}
-use Rattle.edges.proofs.Touches.{Known, item-known}
-use Rattle.plan.specs.Limits.{maxRegions}
-use Rattle.plan.specs.Layout.{tasksOf, bodyOf}
-use Rattle.plan.specs.Code.{codeFrom, codeRank, codeKind, codeSubject}
+use Rattle.plan.specs.Limits.{maxRanks, maxRegions}
+use Rattle.plan.specs.Layout.{passesOf, tasksOf, bodyOf}
+use Rattle.plan.specs.Code.{codeFrom, codeFewer, codeRank, codeKind, codeSubject}
 use Rattle.plan.proofs.Facts.{Formed, formed}
 use Rattle.graph.specs.Table.{subjectOf, codeOf, Graph, Task}
 use Rattle.graph.proofs.Small.{form-words, plan-fits}
@@ -43,13 +43,23 @@ module _ (w items : List ℕ) (n : ℕ) (G : Graph w items n) where
         go (send i g q) k = omega (arith, body-fits .writes-below i g (k .below) (k .writes), form .regions-most)
         go (receive i g q) k = omega (arith, body-fits .writes-below i g (k .below) (k .writes), form .regions-most)
 
+    pub rank-few : rankAt (bodyOf w) a < maxRanks
+    rank-few = omega (arith, rank-below (bodyOf w) body-fits a (omega (arith, G .count)), form .ranks-most)
+
     module _ (code : ℕ) (e : code ≡ getD items a 0) where
-      code-is : code ≡ codeFrom (rankAt (bodyOf w) a) (kindAt (bodyOf w) a) (subjectOf (itemAt (bodyOf w) a))
+      code-is : code ≡ codeFrom (fewer (bodyOf w) (itemAt (bodyOf w) a)) (rankAt (bodyOf w) a) (kindAt (bodyOf w) a) (subjectOf (itemAt (bodyOf w) a))
       unfolding codeOf
       code-is = e ∙ G .each a below
 
       pub code-rank : codeRank code ≡ rankAt (bodyOf w) a
-      code-rank = omega (arith, code-is, kind-most (itemAt (bodyOf w) a), subject-below)
+      code-rank = omega (arith, code-is, kind-most (itemAt (bodyOf w) a), subject-below, rank-few)
+
+      pub code-fewer : codeFewer code ≡ fewer (bodyOf w) (itemAt (bodyOf w) a)
+      code-fewer = omega (arith, code-is, kind-most (itemAt (bodyOf w) a), subject-below, rank-few)
+
+      -- the item's own passes, from the plan's
+      pub code-passes : passesOf w - codeFewer code ≡ itemPasses (bodyOf w) a
+      code-passes = ap (λ (k : ℕ). passesOf w - k) code-fewer
 
       pub code-kind : codeKind code ≡ kindAt (bodyOf w) a
       code-kind = omega (arith, code-is, kind-most (itemAt (bodyOf w) a), subject-below)

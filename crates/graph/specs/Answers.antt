@@ -1,6 +1,7 @@
--- What a lent plan is asked for and answers: its items and its edges (paper 01, "Transfers and
--- items", "Edges", and 11 to 13 of "Refusals that come from the state"). Refusal 0 is none. Of 12
--- only the plan is looked at: no count of a state is judged here. w are the words of the lent plan.
+-- What a lent plan is asked for and answers: its items, its edges and its total of steps (paper 01,
+-- "Transfers and items", "Edges", and 11 to 13 of "Refusals that come from the state"; paper 02,
+-- card 2). Refusal 0 is none. Of 12 only the plan is looked at: no count of a state is judged here.
+-- w are the words of the lent plan.
 use Prim.Native.Nat.{ℕ, _*_}
 use mathlib.Core.Path.{_≡_}
 use mathlib.Core.Bool.{Bool, true, cond, _&&_}
@@ -8,7 +9,7 @@ use mathlib.Core.List.{List, [], _∷_, _++_, flatMap}
 use lib.Dec.{ltb, leb}
 use lib.ListN.{length, take, drop}
 use Rattle.body.specs.Body.{Body}
-use Rattle.body.specs.Items.{itemCount}
+use Rattle.body.specs.Items.{itemCount, totalSteps}
 use Rattle.edges.specs.Rule.{Triple, AllEdges}
 pub use Rattle.plan.specs.Sizes.{maxItems, edgeWords}
 use Rattle.plan.specs.Layout.{planWords, bodyOf}
@@ -52,3 +53,9 @@ pub record EdgesAnswer (w list : List ℕ) (r : Number) (list′ : List ℕ) : T
   pub listed : r .refusal ≡ 0 → (l : List Triple) × AllEdges (planBody w) l × (r .number ≡ length l)
       × (list′ ≡ flatMap three l ++ drop (3 * length l) list)
   pub refused : (r .refusal ≡ 0 → ⊥) → (r .number ≡ 0) × (list′ ≡ list)
+
+-- the total of steps
+pub record TotalAnswer (w : List ℕ) (r : Number) : Type 0 where
+  pub refusal : r .refusal ≡ refusalOf (longPlan w) (formedPlan w) true
+  pub total : r .refusal ≡ 0 → r .number ≡ totalSteps (planBody w)
+  pub refused : (r .refusal ≡ 0 → ⊥) → r .number ≡ 0

@@ -1,13 +1,13 @@
--- The item table: a number for each item, its rank, kind, and task or region. `codeOf` and
--- `tableOf` are what `taskiter_items` answers (Answers); `Graph` and `Task` serve the contracts of
--- inner functions.
+-- The item table: a number for each item, its rank, kind, task or region, and whether it is of a
+-- wrapped transfer. `codeOf` and `tableOf` are what `taskiter_items` answers (Answers); `Graph`
+-- and `Task` serve the contracts of inner functions.
 use Prim.Native.Nat.{ℕ, _≤_, _<_}
 use mathlib.Core.Path.{_≡_}
 use mathlib.Core.Bool.{true}
 use mathlib.Core.List.{List, map}
 use lib.ListN.{length, getD}
 use Rattle.body.specs.Body.{Body}
-use Rattle.body.specs.Items.{Item, task, send, receive, kindOf, itemRank, itemList, itemCount, itemAt}
+use Rattle.body.specs.Items.{Item, task, send, receive, kindOf, itemRank, fewer, itemList, itemCount, itemAt}
 use Rattle.plan.specs.Limits.{maxTasks, maxAccesses}
 use Rattle.plan.specs.Sizes.{maxItems}
 use Rattle.plan.specs.Layout.{planWords, regionsOf, accessesOf, regionAt, bodyOf}
@@ -21,7 +21,7 @@ subjectOf (send i g q) = g
 subjectOf (receive i g q) = g
 
 unfoldable pub codeOf : Body → Item → ℕ
-codeOf B x = codeFrom (itemRank B x) (kindOf x) (subjectOf x)
+codeOf B x = codeFrom (fewer B x) (itemRank B x) (kindOf x) (subjectOf x)
 
 -- the numbers of all items
 abbrev pub tableOf : Body → List ℕ

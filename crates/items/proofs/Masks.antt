@@ -1,70 +1,70 @@
--- The ranks of a mask, taken off it one after another: `rest` is what is left of it from rank q on.
-use Prim.Native.Nat.{ℕ, _+_, _-_, _/_, _%_, _^_, _≤_, _<_}
-use mathlib.Core.Path.{_≡_, sym, _∙_, ap}
-use mathlib.Core.Bool.{true, false}
-use mathlib.Core.List.{List, []}
-use native.Mathlib.Decide.{decLt}
-use native.Mathlib.Nat.{div-one, zero-div}
+-- The codes of a mask: none, and those of its lowest rank before those of the others.
+use Prim.Native.Nat.{ℕ, _-_, _/_, _%_, _^_, _<_}
+use mathlib.Core.Path.{_≡_, refl, sym, _∙_, ap₂}
+use mathlib.Core.Bool.{Bool, true, false, cond}
+use mathlib.Core.List.{List, [], _++_}
+use native.Mathlib.Nat.{zero-div}
 use native.Mathlib.Omega.{arith}
-use borrow.Author.Tests.{eq-eqb, ne-eqb}
-use lib.Pow.{shr-shr, shr-lt}
-use Rattle.finite.specs.Lists.{collect}
+use lib.Bits.{bitAnd}
+use lib.Count.{trailingZeros}
+use lib.Dec.{eqb}
 use Rattle.finite.specs.Put.{Added, RoomAt}
-use Rattle.finite.proofs.Collect.{collect-beyond}
-use Rattle.finite.proofs.Puts.{added-none, room-same, collect-fits, collect-more}
+use Rattle.finite.proofs.Bits.{lowest-set, lowest-below, lowest-under, cleared-bit}
+use Rattle.finite.proofs.Collect.{collect-never, collect-ext, collect-front}
+use Rattle.finite.proofs.Puts.{Left, left-fits, left-more}
 use Rattle.plan.specs.Limits.{maxRanks}
-use Rattle.items.specs.Codes.{pairCodes, hasRank, pairIf, maskCodes}
+use Rattle.transfers.specs.Wanted.{hasRank}
+use Rattle.items.specs.Codes.{pairCodes, pairIf, maskCodes}
 
-pub rest-none : (mask : ℕ) → mask ≡ mask / 2 ^ 0
-rest-none mask = sym (div-one mask)
+-- the lowest rank of a mask that has one
+module _ (mask q : ℕ) (low : q ≡ trailingZeros 64 mask) (some : mask ≡ 0 → ⊥) (below : mask < 65536) where
+  mask-some : 0 < mask
+  mask-some = omega arith
 
-pub rest-more : (mask q rest : ℕ) → rest ≡ mask / 2 ^ q → rest / 2 ≡ mask / 2 ^ (q + 1)
-rest-more mask q rest e = rw e (shr-shr mask q 1)
+  mask-wide : mask < 2 ^ 64
+  mask-wide = omega arith
 
--- a mask of 16 bits has none above them
-pub rest-below : (mask q rest : ℕ) → mask < 65536 → q ≤ maxRanks → rest ≡ mask / 2 ^ q → (rest ≡ 0 → ⊥) → q < maxRanks
-rest-below mask q rest h l e n =
-    elim (decLt q maxRanks) [
-      | yes k ↦ k
-      | no k ↦
-          (let s : q ≡ 16 = omega arith in
-          let z : mask / 2 ^ 16 < 2 ^ 0 = shr-lt 0 16 h in
-          absurd (n (omega (arith, ap (λ (j : ℕ). mask / 2 ^ j) s))))
-    ]
+  pub lowest-rank : q < maxRanks
+  lowest-rank = rw low (lowest-below 64 mask mask-some mask-wide 16 below)
 
--- nothing is left, so no later rank is in the mask
-rest-zero : (mask q k : ℕ) → mask / 2 ^ q ≡ 0 → q ≤ k → mask / 2 ^ k ≡ 0
-rest-zero mask q k e l =
-    let s : k ≡ q + (k - q) = omega arith in
-    rw s (sym (shr-shr mask q (k - q)) ∙ rw e (zero-div (2 ^ (k - q))))
+  -- its pair, and the mask without it
+  module _ (wrapped rank region : ℕ) where
+    lowest-pair : pairIf mask wrapped rank region q ≡ pairCodes (wrapped / 2 ^ q % 2) rank region q
+    unfolding pairIf
+    lowest-pair = let o : mask / 2 ^ q % 2 ≡ 1 = rw low (lowest-set 64 mask mask-some mask-wide) in rw o
 
-module _ (mask rank region q : ℕ) where
-  pair-in : hasRank mask q ≡ true → pairIf mask rank region q ≡ pairCodes rank region q
-  unfolding pairIf
-  pair-in h = rw h
+    lower-none : (k : ℕ) → k < q → pairIf mask wrapped rank region k ≡ []
+    unfolding pairIf
+    lower-none k l = rw (lowest-under 64 mask mask-some mask-wide k (omega arith))
 
-  pair-out : hasRank mask q ≡ false → pairIf mask rank region q ≡ []
-  unfolding pairIf
-  pair-out h = rw h
+    others : (k : ℕ) → k < maxRanks → pairIf (bitAnd mask (mask - 1)) wrapped rank region k ≡ cond (eqb k q) [] (pairIf mask wrapped rank region k)
+    unfolding pairIf
+    others k l = rw (cleared-bit 64 mask mask-some mask-wide k (omega arith), sym low) (by (eqb k q))
+      where
+        by : (b : Bool) →
+            cond (eqb (cond b 0 (mask / 2 ^ k % 2)) 1) (pairCodes (wrapped / 2 ^ k % 2) rank region k) []
+            ≡ cond b [] (cond (hasRank mask k) (pairCodes (wrapped / 2 ^ k % 2) rank region k) [])
+        by true = refl
+        by false = refl
 
--- the loop of `put_mask`
-module _ (mask rank region n : ℕ) (items : List ℕ) (q at : ℕ) (mid : List ℕ) (rest : ℕ)
-    (p : Added (collect q (pairIf mask rank region)) n items at mid) (e : rest ≡ mask / 2 ^ q) where
-  pub mask-fits : q < maxRanks → rest % 2 ≡ 1 → RoomAt (maskCodes mask rank region) n items → RoomAt (pairCodes rank region q) at mid
-  unfolding maskCodes
-  mask-fits l o h =
-      room-same (pair-in mask rank region q (rw e at (eq-eqb (rest % 2) 1 o))) (collect-fits (pairIf mask rank region) n maxRanks q items at mid h p l)
+    mask-lowest :
+        maskCodes mask wrapped rank region
+        ≡ pairCodes (wrapped / 2 ^ q % 2) rank region q ++ maskCodes (bitAnd mask (mask - 1)) wrapped rank region
+    unfolding maskCodes
+    mask-lowest =
+        collect-front maxRanks q (pairIf mask wrapped rank region) lowest-rank lower-none
+        ∙ ap₂ _++_ lowest-pair
+        (sym (collect-ext maxRanks (pairIf (bitAnd mask (mask - 1)) wrapped rank region) (λ k. cond (eqb k q) [] (pairIf mask wrapped rank region k)) others))
 
-  pub mask-more : (r : ℕ) (items′ : List ℕ) → rest % 2 ≡ 1 → Added (pairCodes rank region q) at mid r items′ → Added (collect (q + 1) (pairIf mask rank region)) n items r items′
-  mask-more r items′ o k =
-      collect-more (pairIf mask rank region) n q items at mid r items′ p (rw (pair-in mask rank region q (rw e at (eq-eqb (rest % 2) 1 o))) k)
+    -- a turn of the loop of `put_mask`
+    module _ (X : List ℕ) (n : ℕ) (items : List ℕ) (at : ℕ) (mid : List ℕ) (l : Left X n items (maskCodes mask wrapped rank region) at mid) where
+      pub mask-fits : RoomAt (pairCodes (wrapped / 2 ^ q % 2) rank region q) at mid
+      mask-fits = left-fits _ _ mask-lowest l
 
-  pub mask-other : (rest % 2 ≡ 1 → ⊥) → Added (collect (q + 1) (pairIf mask rank region)) n items at mid
-  mask-other o =
-      collect-more (pairIf mask rank region) n q items at mid at mid p (rw (pair-out mask rank region q (rw e at (ne-eqb (rest % 2) 1 o))) added-none)
+      pub mask-more : (r : ℕ) (mid′ : List ℕ) → Added (pairCodes (wrapped / 2 ^ q % 2) rank region q) at mid r mid′ →
+          Left X n items (maskCodes (bitAnd mask (mask - 1)) wrapped rank region) r mid′
+      mask-more r mid′ p = left-more _ _ mask-lowest l p
 
-  pub mask-done : q ≤ maxRanks → rest ≡ 0 → Added (maskCodes mask rank region) n items at mid
-  unfolding maskCodes
-  mask-done l z =
-      let gone : (k : ℕ) → q ≤ k → k < maxRanks → pairIf mask rank region k ≡ [] = λ k u v. pair-out mask rank region k (rw (rest-zero mask q k (sym e ∙ z) u)) in
-      rw (collect-beyond maxRanks q (pairIf mask rank region) l gone) p
+pub mask-none : (mask wrapped rank region : ℕ) → mask ≡ 0 → maskCodes mask wrapped rank region ≡ []
+unfolding maskCodes pairIf
+mask-none mask wrapped rank region e = collect-never maxRanks (pairIf mask wrapped rank region) (λ k l. rw (e, zero-div (2 ^ k)))

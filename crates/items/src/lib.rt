@@ -1,6 +1,6 @@
-// The item table: for each item its rank, kind, and task or region in one number
-// (graph/specs/Table.antt), put there in the order of the items.
-ghost use Prim.Native.Nat.{_+_, _<_};
+// The item table: for each item its rank, kind, task or region, and whether it has a pass fewer
+// than the plan, in one number (graph/specs/Table.antt), put there in the order of the items.
+ghost use Prim.Native.Nat.{_+_, _≤_, _<_};
 ghost use mathlib.Core.Path.{_≡_};
 ghost use mathlib.Core.Bool.{cond};
 ghost use mathlib.Core.List.{_∷_, [], _++_};
@@ -26,6 +26,7 @@ use plan::limits::MAX_ACCESSES;
 use plan::numbers::as_word;
 use plan::numbers::narrow_16;
 use plan::numbers::wide_16;
+use plan::numbers::wide_32;
 use transfers::PLAN_MASKS;
 
 // Puts a number at n, and answers the place behind it.
@@ -37,33 +38,61 @@ fn put_item(items: &mut [u16], n: usize, code: u64) -> usize
     n + 1
 }
 
-// A send on a rank and its receive on rank q.
-fn put_pair(items: &mut [u16], n: usize, rank: u64, region: u64, q: u64) -> usize
-    requires { ⌜ RoomAt (pairCodes rank region q) n (now items) × (rank < maxRanks) × (region < maxRegions) × (q < maxRanks) ⌝ }
-    ensures { λ r. ⌜ Added (pairCodes rank region q) n (now (items .entry)) r (now (items .exit)) ⌝ }
+// A send on a rank and its receive on rank q; `fewer` is 1 if their transfer is wrapped, else 0.
+fn put_pair(items: &mut [u16], n: usize, fewer: u64, rank: u64, region: u64, q: u64) -> usize
+    requires { ⌜
+        RoomAt (pairCodes fewer rank region q) n (now items)
+        × (fewer ≤ 1) × (rank < maxRanks) × (region < maxRegions) × (q < maxRanks)
+        ⌝ }
+    ensures { λ r. ⌜ Added (pairCodes fewer rank region q) n (now (items .entry)) r (now (items .exit)) ⌝ }
 {
-    let m = put_item(items, n, item_code(rank, SEND, region));
-    put_item(items, m, item_code(q, RECEIVE, region))
+    let m = put_item(items, n, item_code(fewer, rank, SEND, region));
+    put_item(items, m, item_code(fewer, q, RECEIVE, region))
 }
 
-// The pairs of the ranks that a mask has, by rank rising.
-fn put_mask(items: &mut [u16], n: usize, mask: u64, rank: u64, region: u64) -> usize
+// The pairs of the ranks that a mask has, by rank rising. Those that `wrapped` has too are of
+// wrapped transfers.
+fn put_mask(items: &mut [u16], n: usize, mask: u64, wrapped: u64, rank: u64, region: u64) -> usize
     requires { ⌜
-        RoomAt (maskCodes mask rank region) n (now items) × (mask < 65536) × (rank < maxRanks) × (region < maxRegions)
+        RoomAt (maskCodes mask wrapped rank region) n (now items)
+        × (mask < 65536) × (rank < maxRanks) × (region < maxRegions)
         ⌝ }
-    ensures { λ r. ⌜ Added (maskCodes mask rank region) n (now (items .entry)) r (now (items .exit)) ⌝ }
+    ensures { λ r. ⌜ Added (maskCodes mask wrapped rank region) n (now (items .entry)) r (now (items .exit)) ⌝ }
 {
     let mut at = n;
     let mut rest = mask;
-    let mut q: u64 = 0;
     while rest != 0 {
-        if rest % 2 == 1 {
-            at = put_pair(items, at, rank, region, q);
-        }
-        rest = rest / 2;
-        q += 1;
+        let q = wide_32(u64::trailing_zeros(rest));
+        at = put_pair(items, at, (wrapped >> q) % 2, rank, region, q);
+        rest = rest & (rest - 1);
     }
     at
+}
+
+// The transfers of access a of task i, which is on this rank.
+fn put_access(
+    items: &mut [u16],
+    n: usize,
+    plan: &[u64],
+    masks: &[u16; PLAN_MASKS],
+    wraps: &[u16; PLAN_MASKS],
+    rank: u64,
+    i: usize,
+    a: usize,
+) -> usize
+    requires { ⌜
+        RoomAt (accessCodes (now plan) (now masks) (now wraps) i a) n (now items)
+        × (length (now plan) ≡ planWords) × (rank ≡ rankOf (now plan) i) × (rank < maxRanks) × (i < maxTasks) × (a < maxAccesses)
+        ⌝ }
+    ensures { λ r. ⌜ Added (accessCodes (now (plan .entry)) (now (masks .entry)) (now (wraps .entry)) i a) n (now (items .entry)) r (now (items .exit)) ⌝ }
+{
+    let k = MAX_ACCESSES * i + a;
+    let mask = wide_16(masks[k]);
+    if mask == 0 {
+        return n;
+    }
+    let region = access_region(access_at(plan, i, a));
+    put_mask(items, n, mask, wide_16(wraps[k]), rank, as_word(region))
 }
 
 // The transfers of task i, by access.
@@ -72,48 +101,59 @@ fn put_accesses(
     n: usize,
     plan: &[u64],
     masks: &[u16; PLAN_MASKS],
+    wraps: &[u16; PLAN_MASKS],
     i: usize,
 ) -> usize
     requires { ⌜
-        RoomAt (collect maxAccesses (accessCodes (now plan) (now masks) i)) n (now items)
+        RoomAt (collect maxAccesses (accessCodes (now plan) (now masks) (now wraps) i)) n (now items)
         × (length (now plan) ≡ planWords) × (i < maxTasks) × (rankOf (now plan) i < maxRanks)
         ⌝ }
-    ensures { λ r. ⌜ Added (collect maxAccesses (accessCodes (now (plan .entry)) (now (masks .entry)) i)) n (now (items .entry)) r (now (items .exit)) ⌝ }
+    ensures { λ r. ⌜ Added (collect maxAccesses (accessCodes (now (plan .entry)) (now (masks .entry)) (now (wraps .entry)) i)) n (now (items .entry)) r (now (items .exit)) ⌝ }
 {
     let rank = rank_of(plan, i);
     let mut at = n;
     let mut a: usize = 0;
     while a < MAX_ACCESSES {
-        let mask = wide_16(masks[MAX_ACCESSES * i + a]);
-        let region = access_region(access_at(plan, i, a));
-        at = put_mask(items, at, mask, rank, as_word(region));
+        at = put_access(items, at, plan, masks, wraps, rank, i, a);
         a += 1;
     }
     at
 }
 
 // Task i, and its transfers.
-fn put_task(items: &mut [u16], n: usize, plan: &[u64], masks: &[u16; PLAN_MASKS], i: usize) -> usize
+fn put_task(
+    items: &mut [u16],
+    n: usize,
+    plan: &[u64],
+    masks: &[u16; PLAN_MASKS],
+    wraps: &[u16; PLAN_MASKS],
+    i: usize,
+) -> usize
     requires { ⌜
-        RoomAt (taskCodes (now plan) (now masks) i) n (now items)
+        RoomAt (taskCodes (now plan) (now masks) (now wraps) i) n (now items)
         × (length (now plan) ≡ planWords) × (i < maxTasks) × (rankOf (now plan) i < maxRanks)
         ⌝ }
-    ensures { λ r. ⌜ Added (taskCodes (now (plan .entry)) (now (masks .entry)) i) n (now (items .entry)) r (now (items .exit)) ⌝ }
+    ensures { λ r. ⌜ Added (taskCodes (now (plan .entry)) (now (masks .entry)) (now (wraps .entry)) i) n (now (items .entry)) r (now (items .exit)) ⌝ }
 {
-    let at = put_item(items, n, item_code(rank_of(plan, i), TASK, as_word(i)));
-    put_accesses(items, at, plan, masks, i)
+    let at = put_item(items, n, item_code(0, rank_of(plan, i), TASK, as_word(i)));
+    put_accesses(items, at, plan, masks, wraps, i)
 }
 
 // The items of all tasks; answers their number.
-fn put_items(items: &mut [u16], plan: &[u64], masks: &[u16; PLAN_MASKS]) -> usize
-    requires { ⌜ (length (now items) ≡ maxItems) × Coded (now plan) (now masks) ⌝ }
-    ensures { λ r. ⌜ Put (allCodes (now (plan .entry)) (now (masks .entry)) (tasksOf (now (plan .entry)))) (now (items .entry)) r (now (items .exit)) ⌝ }
+fn put_items(
+    items: &mut [u16],
+    plan: &[u64],
+    masks: &[u16; PLAN_MASKS],
+    wraps: &[u16; PLAN_MASKS],
+) -> usize
+    requires { ⌜ (length (now items) ≡ maxItems) × Coded (now plan) (now masks) (now wraps) ⌝ }
+    ensures { λ r. ⌜ Put (allCodes (now (plan .entry)) (now (masks .entry)) (now (wraps .entry)) (tasksOf (now (plan .entry)))) (now (items .entry)) r (now (items .exit)) ⌝ }
 {
     let tasks = tasks_of(plan);
     let mut at: usize = 0;
     let mut i: usize = 0;
     while i < tasks {
-        at = put_task(items, at, plan, masks, i);
+        at = put_task(items, at, plan, masks, wraps, i);
         i += 1;
     }
     at
@@ -135,7 +175,8 @@ pub fn make_table(plan: &[u64], items: &mut [u16]) -> Made
         ⌝ }
 {
     let mut masks = [0u16; PLAN_MASKS];
-    if !form::find_masks(plan, &mut masks) {
+    let mut wraps = [0u16; PLAN_MASKS];
+    if !form::find_masks(plan, &mut masks, &mut wraps) {
         return Made {
             formed: false,
             count: 0,
@@ -143,6 +184,6 @@ pub fn make_table(plan: &[u64], items: &mut [u16]) -> Made
     }
     Made {
         formed: true,
-        count: put_items(items, plan, &masks),
+        count: put_items(items, plan, &masks, &wraps),
     }
 }

@@ -1,7 +1,7 @@
 // An item's number in the item table, its code (specs/Code.antt).
 ghost use Prim.Native.Nat.{_<_, _≤_};
 ghost use mathlib.Core.Path.{_≡_};
-ghost use Rattle.plan.specs.Code.{codeFrom, codeRank, codeKind, codeSubject};
+ghost use Rattle.plan.specs.Code.{codeFrom, codeFewer, codeRank, codeKind, codeSubject};
 
 // The kinds of items.
 pub const TASK: u64 = 0;
@@ -11,18 +11,25 @@ pub const SEND: u64 = 1;
 pub const RECEIVE: u64 = 2;
 
 // The code of an item.
-pub fn item_code(rank: u64, kind: u64, subject: u64) -> u64
-    requires { ⌜ (rank < 16) × (kind ≤ 2) × (subject < 128) ⌝ }
-    ensures { λ r. ⌜ (r ≡ codeFrom rank kind subject) × (r < 8192) ⌝ }
+pub fn item_code(fewer: u64, rank: u64, kind: u64, subject: u64) -> u64
+    requires { ⌜ (fewer ≤ 1) × (rank < 16) × (kind ≤ 2) × (subject < 128) ⌝ }
+    ensures { λ r. ⌜ (r ≡ codeFrom fewer rank kind subject) × (r < 16384) ⌝ }
 {
-    512 * rank + (128 * kind + subject)
+    8192 * fewer + (512 * rank + (128 * kind + subject))
+}
+
+// 1 for an item of a wrapped transfer, else 0.
+pub fn item_fewer(code: u64) -> u64
+    ensures { λ r. ⌜ r ≡ codeFewer code ⌝ }
+{
+    code / 8192
 }
 
 // The rank that an item works on.
 pub fn item_rank(code: u64) -> u64
     ensures { λ r. ⌜ r ≡ codeRank code ⌝ }
 {
-    code / 512
+    code / 512 % 16
 }
 
 // Its kind.

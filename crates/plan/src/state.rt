@@ -1,11 +1,29 @@
 // The layout of what is lent beside a plan, as in specs/Sizes.antt.
-ghost use Prim.Native.Nat.{_<_, _≤_};
+ghost use Prim.Native.Nat.{_-_, _<_, _≤_};
 ghost use mathlib.Core.Path.{_≡_};
+ghost use lib.Dec.{ltb};
 ghost use Rattle.plan.specs.Sizes.{maxItems, valueWords, slotOf};
+ghost use Rattle.plan.specs.Code.{codeFewer};
 use crate::numbers::as_index;
 
 // A number of passes of an item.
 pub type Count = u32;
+
+// The passes of an item, of a plan with so many: fewer where its code says so, and none below 0.
+pub fn own_passes(passes: Count, code: u16) -> Count
+    ensures { λ r. ⌜ r ≡ passes - codeFewer code ⌝ }
+{
+    let fewer = (code / 8192) as Count;
+    if fewer < passes { passes - fewer } else { 0 }
+}
+
+// Whether an item has a pass left after so many: `own_passes` are more, tested with no branch.
+pub fn has_left(pass: Count, passes: Count, code: u16) -> bool
+    ensures { λ r. ⌜ r ≡ ltb pass (passes - codeFewer code) ⌝ }
+{
+    let fewer = (code / 8192) as u64;
+    (pass as u64) + fewer < (passes as u64)
+}
 
 // Items that a plan can have: 128 tasks, and a send and a receive for each of 256 transfers.
 pub const MAX_ITEMS: usize = 640;

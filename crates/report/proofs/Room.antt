@@ -13,13 +13,13 @@ use Rattle.unroll.proofs.Edges.{edge-from, edge-to}
 use Rattle.body.specs.Body.{Body}
 use Rattle.body.specs.Items.{kindOf, itemCount, itemAt}
 use Rattle.body.specs.Places.{system}
+use Rattle.body.proofs.Accessed.{rank-below}
 use Rattle.edges.specs.Rule.{Triple, AllEdges}
 use Rattle.edges.specs.Tests.{distance, rankAt}
 use Rattle.edges.specs.EdgeList.{edgeList}
 use Rattle.edges.proofs.AllEdges.{all-edges}
 use Rattle.edges.proofs.Bound.{edges-bounded}
 use Rattle.edges.proofs.Decided.{edge-distance-is}
-use Rattle.edges.proofs.Touches.{rank-below}
 use Rattle.plan.specs.Limits.{maxRegions}
 use Rattle.plan.specs.Sizes.{maxItems, maxEdges}
 use Rattle.plan.specs.Layout.{planWords, bodyOf}

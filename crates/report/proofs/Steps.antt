@@ -12,7 +12,7 @@ use borrow.Author.Tests.{eqb-true, eq-eqb}
 use lib.ListN.{length, take}
 use Rattle.finite.proofs.Tests.{not-both}
 use Rattle.body.specs.Loop.{loopFinal}
-use Rattle.body.specs.Items.{itemCount}
+use Rattle.body.specs.Items.{itemCount, totalSteps}
 use Rattle.plan.specs.Limits.{maxPasses}
 use Rattle.plan.specs.Sizes.{maxItems}
 use Rattle.plan.specs.Layout.{planWords}
@@ -161,7 +161,8 @@ module _ (plan counts values : List ℕ) (opens : openOf plan counts values .ref
   pub steps-accepted : accepted plan isStep s l ≡ length l
   steps-accepted = taken-accepted plan s l (steps-taken plan mostSteps s)
 
-  total-most : 2 * (planBody plan .passes * itemCount (planBody plan)) ≤ mostSteps
+  total-most : totalSteps (planBody plan) ≤ mostSteps
+  unfolding totalSteps
   total-most =
       let f = open-accepted plan counts values .0 opens .1 in
       let p : planBody plan .passes * itemCount (planBody plan) ≤ maxPasses * maxItems =
@@ -186,7 +187,7 @@ module _ (plan counts values : List ℕ) (opens : openOf plan counts values .ref
   pub steps-complete : Complete (planBody plan) (stateOf (play plan s l .counts) (play plan s l .values))
   steps-complete a h = order l .counted a h .1 ∙ steps-end a h
 
-  pub steps-total : accepted plan isStep s l ≡ 2 * (planBody plan .passes * itemCount (planBody plan))
+  pub steps-total : accepted plan isStep s l ≡ totalSteps (planBody plan)
   steps-total = order l .ends .0 steps-end
 
   pub steps-results : (g : ℕ) → g < planBody plan .regions →

@@ -1,13 +1,13 @@
 -- Chains of edges: how they are made, and that following the chain of an item tests its waits.
 use Prim.Native.Nat.{ℕ, zero, suc, _+_, _-_, _≤_, _<_, min}
-use mathlib.Core.Path.{_≡_, refl, sym, _∙_, ap, subst}
+use mathlib.Core.Path.{_≡_, refl, sym, _∙_, ap, ap₂, subst}
 use mathlib.Core.Bool.{Bool, true, false, cond, not, _||_}
 use mathlib.Core.List.{List}
 use native.Mathlib.Decide.{ℕ-discrete}
 use native.Mathlib.Nat.{min-le-left, min-le-right}
 use native.Mathlib.Numerals.{add-one}
 use native.Mathlib.Omega.{arith}
-use borrow.Author.Tests.{eqb-true, ltb-true, ltb-false, eq-eqb, lt-ltb, le-ltb}
+use borrow.Author.Tests.{eqb-true, ltb-true, ltb-false, eq-eqb, lt-ltb, not-true, not-false}
 use lib.Dec.{eqb, ltb, leb}
 use lib.ListN.{length, getD, set, replicate, length-set, length-replicate, getD-replicate}
 use Rattle.finite.specs.Lists.{tabulate}
@@ -18,12 +18,15 @@ use Rattle.finite.proofs.Lists.{length-tabulate, getD-tabulate}
 use Rattle.finite.proofs.Tabulate.{tabulate-list}
 use Rattle.finite.proofs.Update.{set-at}
 use Rattle.finite.proofs.Replaced.{list-ext, length-replaced, replaced-at}
-use Rattle.body.specs.Items.{itemCount}
+use Rattle.body.specs.Items.{itemCount, itemPasses}
 use Rattle.edges.specs.Tests.{edgeTest, metTest, waitsTest}
 use Rattle.plan.specs.Sizes.{maxItems, maxEdges}
 use Rattle.plan.specs.Layout.{bodyOf, passesOf}
+use Rattle.plan.specs.Code.{codeFewer}
+use Rattle.graph.specs.Table.{Graph}
 use Rattle.steps.specs.Turns.{doneBy, isReady}
 use Rattle.values.proofs.Opening.{filled-more}
+use Rattle.calls.proofs.Behind.{own-passes}
 use Rattle.runs.specs.Chains.{fromAt, toAt, lastTo, lowestTo, Ends, Chained, Bounded, Edges, FirstReady}
 
 -- the ends of an edge
@@ -204,10 +207,28 @@ module _ (w edges counts : List ℕ) (m b : ℕ) where
   left-below left T l = omega (arith, T .most)
 
 module _ (w edges counts : List ℕ) (n m b : ℕ) (E : Edges w edges n m) (lb : b < n) where
-  -- no pass is left
-  pub none-left : (pass passes : ℕ) → pass ≡ doneBy counts b → passes ≡ passesOf w → passes ≤ pass → false ≡ isReady (bodyOf w) counts b
-  unfolding isReady
-  none-left pass passes p q l = let h : passesOf w ≤ doneBy counts b = omega arith in rw (le-ltb (doneBy counts b) (passesOf w) h)
+  -- whether the item has a pass left
+  module _ (table : List ℕ) (G : Graph w table n) (pass passes : ℕ) (p : pass ≡ doneBy counts b) (q : passes ≡ passesOf w)
+      (left : Bool) (t : left ≡ ltb pass (passes - codeFewer (getD table b 0))) where
+    left-is : ltb (doneBy counts b) (itemPasses (bodyOf w) b) ≡ left
+    left-is = sym (t ∙ ap₂ ltb p (own-passes w table n G passes q b lb (passes - codeFewer (getD table b 0)) refl))
+
+    pub none-left : not left ≡ true → false ≡ isReady (bodyOf w) counts b
+    unfolding isReady
+    none-left h = rw (left-is, not-true left h)
+
+    -- all edges are met
+    pub all-met : not left ≡ false → (next : ℕ) → Tested w edges counts m b next → next ≤ 0 → true ≡ isReady (bodyOf w) counts b
+    unfolding isReady waitsTest metTest
+    all-met h next T z =
+        sym (and-intro (ltb (doneBy counts b) (itemPasses (bodyOf w) b)) (waitsTest (bodyOf w) (doneBy counts) (doneBy counts b) b) (left-is ∙ not-false left h)
+        (all-of (λ c. metTest (bodyOf w) (doneBy counts) (doneBy counts b) c b) (itemCount (bodyOf w)) (λ c k. each c k (edgeTest (bodyOf w) c b) refl)))
+      where
+        each : (c : ℕ) → c < itemCount (bodyOf w) → (t : Bool) → edgeTest (bodyOf w) c b ≡ t → (not t || meets w edges counts m b c) ≡ true
+        each c k false h = refl
+        each c k true h =
+            let f = E .listed c b (omega (arith, k, E .count)) lb h in
+            subst (λ (x : ℕ). meets w edges counts m b x ≡ true) (f .2) (T .met (f .0) (omega arith) (f .1) (f .3))
 
   module _ (heads nexts : List ℕ) (C : Chained edges m heads nexts) where
     pub tested-first : (head : ℕ) → head ≡ getD heads b 0 → Tested w edges counts m b head
@@ -240,7 +261,7 @@ module _ (w edges counts : List ℕ) (n m b : ℕ) (E : Edges w edges n m) (lb :
         unfolding isReady waitsTest metTest
         not-met h =
             sym (false-of (isReady (bodyOf w) counts b)
-            (λ r. not-both (and-true (ltb (doneBy counts b) (passesOf w)) (waitsTest (bodyOf w) (doneBy counts) (doneBy counts b) b) r .1)
+            (λ r. not-both (and-true (ltb (doneBy counts b) (itemPasses (bodyOf w) b)) (waitsTest (bodyOf w) (doneBy counts) (doneBy counts b) b) r .1)
             (all-fails (λ c. metTest (bodyOf w) (doneBy counts) (doneBy counts b) c b) (itemCount (bodyOf w)) (fromAt edges e) (omega (arith, E .edge e edge-left .0, E .count))
             (let t : edgeTest (bodyOf w) (fromAt edges e) b ≡ true = subst (λ (x : ℕ). edgeTest (bodyOf w) (fromAt edges e) x ≡ true) to (E .edge e edge-left .2) in
             let f = sym own ∙ h in rw (t, f)))))
@@ -266,19 +287,6 @@ module _ (w edges counts : List ℕ) (n m b : ℕ) (E : Edges w edges n m) (lb :
                 side : (t : Bool) → ltb d e ≡ t → (d ≡ e → ⊥) → meets w edges counts m b (fromAt edges d) ≡ true
                 side true q k = absurd (last-none edges e b d (omega (arith, is)) (ltb-true d e q) z)
                 side false q k = T .met d (omega (arith, ltb-false d e q, k)) v z
-
-  -- all edges are met
-  pub all-met : (pass passes left : ℕ) → Tested w edges counts m b left → left ≤ 0 → pass ≡ doneBy counts b → passes ≡ passesOf w → pass < passes → true ≡ isReady (bodyOf w) counts b
-  unfolding isReady waitsTest metTest
-  all-met pass passes left T z p q l =
-      sym (and-intro (ltb (doneBy counts b) (passesOf w)) (waitsTest (bodyOf w) (doneBy counts) (doneBy counts b) b) (lt-ltb (doneBy counts b) (passesOf w) (omega arith))
-      (all-of (λ c. metTest (bodyOf w) (doneBy counts) (doneBy counts b) c b) (itemCount (bodyOf w)) (λ c k. each c k (edgeTest (bodyOf w) c b) refl)))
-    where
-      each : (c : ℕ) → c < itemCount (bodyOf w) → (t : Bool) → edgeTest (bodyOf w) c b ≡ t → (not t || meets w edges counts m b c) ≡ true
-      each c k false h = refl
-      each c k true h =
-          let f = E .listed c b (omega (arith, k, E .count)) lb h in
-          subst (λ (x : ℕ). meets w edges counts m b x ≡ true) (f .2) (T .met (f .0) (omega arith) (f .1) (f .3))
 
 -- looking for the lowest item that is ready: none of those from `low` to below b is
 pub record NoneReady (w counts : List ℕ) (low b : ℕ) : Type 0 where

@@ -13,7 +13,8 @@ use lib.Seq.{getD-set-other}
 use Rattle.finite.proofs.Tests.{and-true, false-of}
 use Rattle.finite.specs.Update.{update}
 use Rattle.body.specs.Body.{Body}
-use Rattle.body.specs.Items.{itemCount}
+use Rattle.body.specs.Items.{itemCount, itemAt, itemPasses}
+use Rattle.body.proofs.Wrapped.{passes-most}
 use Rattle.edges.specs.Tests.{edgeTest, waitsTest}
 use Rattle.plan.specs.Limits.{maxPasses}
 use Rattle.plan.specs.Sizes.{maxItems, countWords, valueWords, firstFinished, firstHeld}
@@ -101,8 +102,8 @@ module _ (w : List ℕ) (F : Formed w) where
         where
           fewer : doneBy C a < maxPasses
           fewer =
-              let l : doneBy C a < passesOf w = ltb-true (doneBy C a) (passesOf w) (and-true (ltb (doneBy C a) (passesOf w)) (waitsTest (bodyOf w) (doneBy C) (doneBy C a) a) (R .ready la) .0) in
-              omega (arith, passes-few w (F .formed))
+              let l : doneBy C a < itemPasses (bodyOf w) a = ltb-true (doneBy C a) (itemPasses (bodyOf w) a) (and-true (ltb (doneBy C a) (itemPasses (bodyOf w) a)) (waitsTest (bodyOf w) (doneBy C) (doneBy C a) a) (R .ready la) .0) in
+              omega (arith, passes-few w (F .formed), passes-most (bodyOf w) (itemAt (bodyOf w) a) .0)
 
       -- the state after the turn, and where to look for the next item
       module _ (C2 W2 : List ℕ) (t : lent C2 W2 ≡ lentBy (finished w (started w C W a .counts) (started w C W a .values) a)) where

@@ -8,6 +8,7 @@ ghost use Rattle.finite.specs.Lists.{tabulate};
 ghost use Rattle.finite.specs.Update.{replaced};
 ghost use Rattle.plan.specs.Layout.{bodyOf, passesOf};
 ghost use Rattle.plan.specs.Sizes.{maxItems, maxEdges, countWords};
+ghost use Rattle.graph.specs.Table.{Graph};
 ghost use Rattle.steps.specs.Turns.{isReady};
 ghost use Rattle.runs.specs.Chains.{fromAt, toAt, lastTo, lowestTo, Ends, Chained, Edges, FirstReady};
 use plan::numbers::as_word;
@@ -18,6 +19,7 @@ use plan::state::Count;
 use plan::state::FIRST_FINISHED;
 use plan::state::MAX_EDGES;
 use plan::state::MAX_ITEMS;
+use plan::state::has_left;
 use walk::waits::is_met;
 
 // Where edge e of m comes from.
@@ -82,6 +84,7 @@ pub(crate) fn find_lowest(edges: &[u32], m: usize, lowest: &mut [u16])
 // Whether item b, which does not run, may start.
 fn is_ready(
     plan: &[u64],
+    table: &[u16; MAX_ITEMS],
     edges: &[u32],
     n: usize,
     m: usize,
@@ -92,12 +95,12 @@ fn is_ready(
     b: usize,
 ) -> bool
     requires { ⌜
-        Edges (now plan) (now edges) n m × Chained (now edges) m (now heads) (now nexts) × (countWords ≤ length (now counts)) × (passes ≡ passesOf (now plan)) × (b < n)
+        Graph (now plan) (now table) n × Edges (now plan) (now edges) n m × Chained (now edges) m (now heads) (now nexts) × (countWords ≤ length (now counts)) × (passes ≡ passesOf (now plan)) × (b < n)
         ⌝ }
     ensures { λ r. ⌜ r ≡ isReady (bodyOf (now (plan .entry))) (now (counts .entry)) b ⌝ }
 {
     let pass = counts[FIRST_FINISHED + b];
-    if pass >= passes {
+    if !has_left(pass, passes, table[b]) {
         return false;
     }
     let mut left = index_16(heads[b]);
@@ -115,6 +118,7 @@ fn is_ready(
 // The lowest item from `low` on that may start, n where there is none.
 pub(crate) fn first_ready(
     plan: &[u64],
+    table: &[u16; MAX_ITEMS],
     edges: &[u32],
     n: usize,
     m: usize,
@@ -125,13 +129,13 @@ pub(crate) fn first_ready(
     low: usize,
 ) -> usize
     requires { ⌜
-        Edges (now plan) (now edges) n m × Chained (now edges) m (now heads) (now nexts) × (countWords ≤ length (now counts)) × (passes ≡ passesOf (now plan)) × (low ≤ n)
+        Graph (now plan) (now table) n × Edges (now plan) (now edges) n m × Chained (now edges) m (now heads) (now nexts) × (countWords ≤ length (now counts)) × (passes ≡ passesOf (now plan)) × (low ≤ n)
         ⌝ }
     ensures { λ r. ⌜ FirstReady (now (plan .entry)) (now (counts .entry)) n low r ⌝ }
 {
     let mut b = low;
     while b < n {
-        if is_ready(plan, edges, n, m, heads, nexts, counts, passes, b) {
+        if is_ready(plan, table, edges, n, m, heads, nexts, counts, passes, b) {
             return b;
         }
         b += 1;

@@ -73,12 +73,12 @@ fn take_turns(
 {
     let passes = pass_count(plan);
     let mut steps: u64 = 0;
-    let mut a = first_ready(plan, edges, n, m, heads, nexts, counts, passes, 0);
+    let mut a = first_ready(plan, table, edges, n, m, heads, nexts, counts, passes, 0);
     while a < n {
         take_turn(plan, wide_16(table[a]), a, counts, values);
         steps += 2;
         let low = index_16(lowest[a]);
-        a = first_ready(plan, edges, n, m, heads, nexts, counts, passes, low);
+        a = first_ready(plan, table, edges, n, m, heads, nexts, counts, passes, low);
     }
     steps
 }

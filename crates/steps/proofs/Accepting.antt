@@ -14,12 +14,12 @@ use Rattle.finite.proofs.Below.{all-at, all-of}
 use Rattle.unroll.specs.Machine.{State, CanStart, CanFinish}
 use Rattle.unroll.specs.Meaning.{StartRule}
 use Rattle.body.specs.Body.{Body}
-use Rattle.body.specs.Items.{itemCount}
+use Rattle.body.specs.Items.{itemCount, itemPasses}
 use Rattle.body.specs.Places.{system}
 use Rattle.body.proofs.Theorems.{laws}
 use Rattle.edges.specs.Tests.{waitsTest}
 use Rattle.edges.specs.Rule.{WaitsMet}
-use Rattle.edges.proofs.Decided.{waits-decided}
+use Rattle.edges.proofs.Decided.{waits-decided, rule-waits, waits-rule}
 use Rattle.plan.specs.Layout.{planWords}
 use Rattle.graph.specs.Answers.{refusalOf, longPlan, formedPlan, planBody, isItem}
 use Rattle.graph.proofs.Small.{plan-fits, plan-small}
@@ -63,25 +63,25 @@ count-ok passes s a = (to, from)
         let n : s .started a ≡ s .finished a + 1 = omega arith in
         rw (le-leb (s .finished a) passes l, eq-eqb (s .started a) (s .finished a + 1) n, lt-ltb (s .finished a) passes k) (or-true (eqb (s .started a) (s .finished a)))
 
-pub complete : (B : Body) (s : State) → (isComplete B s ≡ true) ↔ ((a : ℕ) → a < itemCount B → s .finished a ≡ B .passes)
+pub complete : (B : Body) (s : State) → (isComplete B s ≡ true) ↔ ((a : ℕ) → a < itemCount B → s .finished a ≡ itemPasses B a)
 complete B s = (
-  λ h a l. eqb-true (s .finished a) (B .passes) (all-at (λ a. eqb (s .finished a) (B .passes)) (itemCount B) a h l),
-  λ f. all-of (λ a. eqb (s .finished a) (B .passes)) (itemCount B) (λ a l. eq-eqb (s .finished a) (B .passes) (f a l)),
+  λ h a l. eqb-true (s .finished a) (itemPasses B a) (all-at (λ a. eqb (s .finished a) (itemPasses B a)) (itemCount B) a h l),
+  λ f. all-of (λ a. eqb (s .finished a) (itemPasses B a)) (itemCount B) (λ a l. eq-eqb (s .finished a) (itemPasses B a) (f a l)),
 )
 
 start-none : (B : Body) (s : State) (a : ℕ) → startTests B s a ≡ 0 →
-    (s .finished a < B .passes) × (s .started a ≡ s .finished a) × (waitsTest B (s .finished) (s .started a) a ≡ true)
-start-none B s a = go (ltb (s .finished a) (B .passes)) (eqb (s .started a) (s .finished a)) (waitsTest B (s .finished) (s .started a) a) refl refl
+    (s .finished a < itemPasses B a) × (s .started a ≡ s .finished a) × (waitsTest B (s .finished) (s .started a) a ≡ true)
+start-none B s a = go (ltb (s .finished a) (itemPasses B a)) (eqb (s .started a) (s .finished a)) (waitsTest B (s .finished) (s .started a) a) refl refl
   where
-    go : (x y z : Bool) → ltb (s .finished a) (B .passes) ≡ x → eqb (s .started a) (s .finished a) ≡ y → _≡_ {A = ℕ} (cond x (cond y (cond z 0 16) 15) 14) 0 →
-        (s .finished a < B .passes) × (s .started a ≡ s .finished a) × (z ≡ true)
-    go true true true p q e = (ltb-true (s .finished a) (B .passes) p, eqb-true (s .started a) (s .finished a) q, refl)
+    go : (x y z : Bool) → ltb (s .finished a) (itemPasses B a) ≡ x → eqb (s .started a) (s .finished a) ≡ y → _≡_ {A = ℕ} (cond x (cond y (cond z 0 16) 15) 14) 0 →
+        (s .finished a < itemPasses B a) × (s .started a ≡ s .finished a) × (z ≡ true)
+    go true true true p q e = (ltb-true (s .finished a) (itemPasses B a) p, eqb-true (s .started a) (s .finished a) q, refl)
     go true true false p q e = absurd (omega arith)
     go true false z p q e = absurd (omega arith)
     go false y z p q e = absurd (omega arith)
 
-none-start : (B : Body) (s : State) (a : ℕ) → s .finished a < B .passes → s .started a ≡ s .finished a → waitsTest B (s .finished) (s .started a) a ≡ true → startTests B s a ≡ 0
-none-start B s a l e w = rw (lt-ltb (s .finished a) (B .passes) l, eq-eqb (s .started a) (s .finished a) e, w)
+none-start : (B : Body) (s : State) (a : ℕ) → s .finished a < itemPasses B a → s .started a ≡ s .finished a → waitsTest B (s .finished) (s .started a) a ≡ true → startTests B s a ≡ 0
+none-start B s a l e w = rw (lt-ltb (s .finished a) (itemPasses B a) l, eq-eqb (s .started a) (s .finished a) e, w)
 
 finish-none : (s : State) (a : ℕ) → finishTests s a ≡ 0 → s .started a ≡ s .finished a → ⊥
 finish-none s a h e = let z : _≡_ {A = ℕ} 17 0 = rw (eq-eqb (s .started a) (s .finished a) e) at h in omega arith
@@ -120,10 +120,10 @@ module _ (plan counts values : List ℕ) where
       rw (lt-leb valueWords (length values) r, and-false (leb countWords (length counts))) (and-false (longPlan plan))
 
   pub formed-counts : (formedCounts plan counts values ≡ true)
-      ↔ ((a : ℕ) → a < itemCount (planBody plan) → CountFormed (planBody plan .passes) (stateOf counts values) a)
+      ↔ ((a : ℕ) → a < itemCount (planBody plan) → CountFormed (itemPasses (planBody plan) a) (stateOf counts values) a)
   formed-counts = (
-    λ h a l. count-ok (planBody plan .passes) (stateOf counts values) a .0 (all-at (countOk (planBody plan .passes) (stateOf counts values)) (itemCount (planBody plan)) a h l),
-    λ f. all-of (countOk (planBody plan .passes) (stateOf counts values)) (itemCount (planBody plan)) (λ a l. count-ok (planBody plan .passes) (stateOf counts values) a .1 (f a l)),
+    λ h a l. count-ok (itemPasses (planBody plan) a) (stateOf counts values) a .0 (all-at (λ a. countOk (itemPasses (planBody plan) a) (stateOf counts values) a) (itemCount (planBody plan)) a h l),
+    λ f. all-of (λ a. countOk (itemPasses (planBody plan) a) (stateOf counts values) a) (itemCount (planBody plan)) (λ a l. count-ok (itemPasses (planBody plan) a) (stateOf counts values) a .1 (f a l)),
   )
 
   -- neither 11 nor 12 is given
@@ -231,7 +231,7 @@ module _ (plan counts values : List ℕ) where
   pub start-started : (a : ℕ) → startOf plan counts values a .refusal ≡ 0 → startOf plan counts values a ≡ started plan counts values a
   start-started a h = start-parts a h .3
 
-  -- exactly by the paper's words
+  -- exactly by the papers' words
   pub start-rule : Clear → (a : ℕ) → (startOf plan counts values a .refusal ≡ 0) ↔ StartRule (system (planBody plan)) (stateOf counts values) a
   start-rule c a = (to, from)
     where
@@ -248,14 +248,14 @@ module _ (plan counts values : List ℕ) where
           let l : a < itemCount (planBody plan) = ltb-true a (itemCount (planBody plan)) (p .1) in
           let t = start-none (planBody plan) (stateOf counts values) a (p .2) in
           let w = waits l .0 (t .2) in
-          record { in-range = l; left = t .0; idle = t .1; same-pass = w .same-pass; pass-before = w .pass-before }
+          waits-rule (planBody plan) (stateOf counts values) a l (t .0) (t .1) w
 
       from : StartRule (system (planBody plan)) (stateOf counts values) a → startOf plan counts values a .refusal ≡ 0
       from r =
           ap (λ (x : Left). x .refusal)
           (parts-start a c (lt-ltb a (itemCount (planBody plan)) (r .in-range))
           (none-start (planBody plan) (stateOf counts values) a (r .left) (r .idle)
-          (waits (r .in-range) .1 (record { same-pass = r .same-pass; pass-before = r .pass-before }))))
+          (waits (r .in-range) .1 (rule-waits (planBody plan) (plan-fits (take planWords plan) (c .formed-plan)) (stateOf counts values) a r))))
 
   pub start-can : Clear → (a : ℕ) → (startOf plan counts values a .refusal ≡ 0) ↔ CanStart (system (planBody plan)) (stateOf counts values) a
   start-can c a =
@@ -330,7 +330,7 @@ module _ (plan counts values : List ℕ) where
   result-shown g h = result-parts g h .3
 
   pub result-complete : Clear → (g : ℕ) → (resultOf plan counts values g .refusal ≡ 0)
-      ↔ ((g < planBody plan .regions) × ((a : ℕ) → a < itemCount (planBody plan) → stateOf counts values .finished a ≡ planBody plan .passes))
+      ↔ ((g < planBody plan .regions) × ((a : ℕ) → a < itemCount (planBody plan) → stateOf counts values .finished a ≡ itemPasses (planBody plan) a))
   result-complete c g = (
     λ h.
         let p = result-parts g h in

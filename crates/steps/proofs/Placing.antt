@@ -1,6 +1,7 @@
--- Where the items of a plan in form and their places stand in the lent state: held words, and places that items access, lie apart.
+-- Where the items of a plan in form and their places stand in the lent state: held words, and
+-- places that items access, lie apart.
 use Prim.Native.Nat.{ℕ, zero, suc, _+_, _-_, _*_, _/_, _%_, _≤_, _<_}
-use mathlib.Core.Path.{_≡_, refl, sym, _∙_, ap, subst}
+use mathlib.Core.Path.{_≡_, sym, _∙_, ap, subst}
 use mathlib.Core.Bool.{true, false, _||_, or-true}
 use mathlib.Core.Logic.{_⊎_, inl, inr, ⊎-elim}
 use mathlib.Core.List.{List}
@@ -12,11 +13,11 @@ use Rattle.finite.specs.Lists.{mem}
 use Rattle.finite.proofs.Tests.{and-true, or-cases, false-of}
 use Rattle.unroll.specs.System.{Accesses, writing}
 use Rattle.body.specs.Body.{Body, Fits, firstSlot}
-use Rattle.body.specs.Items.{Item, task, send, receive, kindOf, itemRank, itemCount, itemAt}
+use Rattle.body.specs.Items.{send, itemRank, itemCount, itemAt}
 use Rattle.body.specs.Places.{slot, copy, initial, system}
 use Rattle.body.proofs.Places.{copy-below, slot-opening}
+use Rattle.body.proofs.Accessed.{send-from, Place, of-copy, of-send, of-receive, place-of, rank-below, receive-kind}
 use Rattle.edges.specs.Tests.{kindAt, rankAt}
-use Rattle.edges.proofs.Touches.{Place, of-copy, of-send, of-receive, place-of, rank-below, receive-kind}
 use Rattle.plan.specs.Sizes.{maxItems}
 use Rattle.plan.specs.Layout.{bodyOf}
 use Rattle.plan.specs.Form.{inForm}
@@ -78,14 +79,6 @@ module _ (B : Body) where
       positive zero k = absurd (omega (arith, mul-zero (B .ranks)))
       positive (suc n) k = omega arith
 
-  send-from : (a : ℕ) → kindAt B a ≡ 1 → (i : ℕ) × (g : ℕ) × (q : ℕ) × (itemAt B a ≡ send i g q)
-  send-from a k = go (itemAt B a) refl k
-    where
-      go : (y : Item) → itemAt B a ≡ y → kindOf y ≡ 1 → (i : ℕ) × (g : ℕ) × (q : ℕ) × (itemAt B a ≡ send i g q)
-      go (task i) e z = absurd (omega arith)
-      go (send i g q) e z = (i, g, q, e)
-      go (receive i g q) e z = absurd (omega arith)
-
   pub value-from : (x : ℕ) (P : Type 0) → ((q g : ℕ) → q < B .ranks → g < B .regions → x ≡ copy B q g → P) →
       ((a i g q : ℕ) → a < itemCount B → itemAt B a ≡ send i g q → x ≡ slot a → P) → ((a : ℕ) → a < itemCount B → x ≡ firstHeld + a → P) →
       (isCopy B x || (isSlot B x || isHeld B x)) ≡ true → P
@@ -99,7 +92,7 @@ module _ (B : Body) where
       slotted e =
           let p = and-true (leb firstSlot x) _ e in
           let q = and-true (ltb x (firstSlot + itemCount B)) (eqb (kindAt B (x - firstSlot)) 1) (p .1) in
-          let r = send-from (x - firstSlot) (eqb-true (kindAt B (x - firstSlot)) 1 (q .1)) in
+          let r = send-from (itemAt B (x - firstSlot)) (eqb-true (kindAt B (x - firstSlot)) 1 (q .1)) in
           let l = leb-true firstSlot x (p .0) in
           let k = ltb-true x (firstSlot + itemCount B) (q .0) in
           t (x - firstSlot) (r .0) (r .1) (r .2) (omega arith) (r .3) (omega arith)

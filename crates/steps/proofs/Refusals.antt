@@ -12,7 +12,7 @@ use lib.ListN.{length}
 use Rattle.finite.proofs.Tests.{true-or-false, and-true, and-intro, false-of, not-both}
 use Rattle.unroll.specs.Machine.{State}
 use Rattle.unroll.specs.Meaning.{StartRule}
-use Rattle.body.specs.Items.{itemCount}
+use Rattle.body.specs.Items.{itemCount, itemPasses}
 use Rattle.body.specs.Places.{system}
 use Rattle.edges.specs.Tests.{waitsTest}
 use Rattle.plan.specs.Layout.{planWords}
@@ -138,7 +138,7 @@ module _ (plan : List ℕ) (s : Lent) where
 
   own-beyond : (c : Call) → Own (ownTests c)
   own-beyond (start a) =
-      go (ltb (stateOf (s .counts) (s .values) .finished a) (planBody plan .passes)) (eqb (stateOf (s .counts) (s .values) .started a) (stateOf (s .counts) (s .values) .finished a))
+      go (ltb (stateOf (s .counts) (s .values) .finished a) (itemPasses (planBody plan) a)) (eqb (stateOf (s .counts) (s .values) .started a) (stateOf (s .counts) (s .values) .finished a))
       (waitsTest (planBody plan) (stateOf (s .counts) (s .values) .finished) (stateOf (s .counts) (s .values) .started a) a)
     where
       go : (x y z : Bool) → Own (cond x (cond y (cond z 0 16) 15) 14)
@@ -226,7 +226,7 @@ module _ (plan counts values : List ℕ) where
 
   module _ (a : ℕ) where
     abbrev left : Bool
-    left = ltb (now .finished a) (planBody plan .passes)
+    left = ltb (now .finished a) (itemPasses (planBody plan) a)
 
     abbrev idle : Bool
     idle = eqb (now .started a) (now .finished a)
@@ -234,15 +234,15 @@ module _ (plan counts values : List ℕ) where
     abbrev met : Bool
     met = waitsTest (planBody plan) (now .finished) (now .started a) a
 
-    pub start-14 : (startOf plan counts values a .refusal ≡ 14) ↔ (Clear plan counts values × (a < itemCount (planBody plan)) × (now .finished a ≡ planBody plan .passes))
+    pub start-14 : (startOf plan counts values a .refusal ≡ 14) ↔ (Clear plan counts values × (a < itemCount (planBody plan)) × (now .finished a ≡ itemPasses (planBody plan) a))
     start-14 =
         let k = call-own plan (lent counts values) (start a) 14 (omega arith) in
         let t = first-fails 14 15 16 0 (omega arith) (omega arith) (omega arith) (inl refl) left idle met in (
           λ e.
               let h = k .0 e in
               let l : a < itemCount (planBody plan) = ltb-true a (itemCount (planBody plan)) (h .1) in
-              (h .0, l, omega (arith, ltb-false (now .finished a) (planBody plan .passes) (t .0 (h .2)), formed-counts plan counts values .0 (h .0 .formed-counts) a l .0)),
-          λ h. k .1 (h .0, lt-ltb a (itemCount (planBody plan)) (h .1), t .1 (le-ltb (now .finished a) (planBody plan .passes) (omega (arith, h .2)))),
+              (h .0, l, omega (arith, ltb-false (now .finished a) (itemPasses (planBody plan) a) (t .0 (h .2)), formed-counts plan counts values .0 (h .0 .formed-counts) a l .0)),
+          λ h. k .1 (h .0, lt-ltb a (itemCount (planBody plan)) (h .1), t .1 (le-ltb (now .finished a) (itemPasses (planBody plan) a) (omega (arith, h .2)))),
         )
 
     pub start-15 : (startOf plan counts values a .refusal ≡ 15) ↔ (Clear plan counts values × (a < itemCount (planBody plan)) × (now .started a ≡ suc (now .finished a)))
@@ -255,12 +255,12 @@ module _ (plan counts values : List ℕ) where
               (h .0, l, ⊎-elim (λ q. absurd (eqb-false (now .started a) (now .finished a) (t .0 (h .2) .1) q)) (λ q. q .0) (formed-counts plan counts values .0 (h .0 .formed-counts) a l .1)),
           λ h.
               let running : now .started a ≡ now .finished a → ⊥ = λ q. omega (arith, h .2) in
-              let more : now .finished a < planBody plan .passes = ⊎-elim (λ q. absurd (running q)) (λ q. q .1) (formed-counts plan counts values .0 (h .0 .formed-counts) a (h .1) .1) in
-              k .1 (h .0, lt-ltb a (itemCount (planBody plan)) (h .1), t .1 (lt-ltb (now .finished a) (planBody plan .passes) more, ne-eqb (now .started a) (now .finished a) running)),
+              let more : now .finished a < itemPasses (planBody plan) a = ⊎-elim (λ q. absurd (running q)) (λ q. q .1) (formed-counts plan counts values .0 (h .0 .formed-counts) a (h .1) .1) in
+              k .1 (h .0, lt-ltb a (itemCount (planBody plan)) (h .1), t .1 (lt-ltb (now .finished a) (itemPasses (planBody plan) a) more, ne-eqb (now .started a) (now .finished a) running)),
         )
 
     pub start-16 : (startOf plan counts values a .refusal ≡ 16)
-        ↔ (Clear plan counts values × (a < itemCount (planBody plan)) × (now .finished a < planBody plan .passes) × (now .started a ≡ now .finished a)
+        ↔ (Clear plan counts values × (a < itemCount (planBody plan)) × (now .finished a < itemPasses (planBody plan) a) × (now .started a ≡ now .finished a)
         × (StartRule (system (planBody plan)) now a → ⊥))
     start-16 =
         let k = call-own plan (lent counts values) (start a) 16 (omega arith) in
@@ -270,13 +270,13 @@ module _ (plan counts values : List ℕ) where
               let q = t .0 (h .2) in (
                 h .0,
                 ltb-true a (itemCount (planBody plan)) (h .1),
-                ltb-true (now .finished a) (planBody plan .passes) (q .0),
+                ltb-true (now .finished a) (itemPasses (planBody plan) a) (q .0),
                 eqb-true (now .started a) (now .finished a) (q .1),
                 λ r. omega (arith, e, start-rule plan counts values (h .0) a .1 r),
               ),
           λ h.
               let i = lt-ltb a (itemCount (planBody plan)) (h .1) in
-              let l = lt-ltb (now .finished a) (planBody plan .passes) (h .2) in
+              let l = lt-ltb (now .finished a) (itemPasses (planBody plan) a) (h .2) in
               let d = eq-eqb (now .started a) (now .finished a) (h .3) in
               k .1 (h .0, i, t .1 (l, d, false-of met (λ w. h .4 (start-rule plan counts values (h .0) a .0 (clear-own plan (lent counts values) (start a) (h .0) i (rw (l, d, w))))))),
         )
@@ -291,7 +291,7 @@ module _ (plan counts values : List ℕ) where
         )
 
   pub result-18 : (g : ℕ) → (resultOf plan counts values g .refusal ≡ 18)
-      ↔ (Clear plan counts values × (g < planBody plan .regions) × (((a : ℕ) → a < itemCount (planBody plan) → now .finished a ≡ planBody plan .passes) → ⊥))
+      ↔ (Clear plan counts values × (g < planBody plan .regions) × (((a : ℕ) → a < itemCount (planBody plan) → now .finished a ≡ itemPasses (planBody plan) a) → ⊥))
   result-18 g =
       let k = call-own plan (lent counts values) (result g) 18 (omega arith) in
       let t = tests-18 (isComplete (planBody plan) now) in (

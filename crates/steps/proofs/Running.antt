@@ -19,11 +19,12 @@ use Rattle.finite.proofs.Update.{set-at, update-same, update-other}
 use Rattle.unroll.specs.Sequential.{wordOn}
 use Rattle.unroll.specs.Machine.{State, finishState}
 use Rattle.body.specs.Body.{Body}
-use Rattle.body.specs.Items.{itemCount}
+use Rattle.body.specs.Items.{itemCount, itemAt, itemPasses}
+use Rattle.body.proofs.Wrapped.{passes-most}
 use Rattle.body.specs.Places.{system, resultOf as regionResult}
 use Rattle.edges.specs.Tests.{edgeTest, metTest, waitsTest}
 use Rattle.edges.specs.Rule.{WaitsMet}
-use Rattle.edges.proofs.Decided.{waits-decided}
+use Rattle.edges.proofs.Decided.{waits-decided, rule-waits, waits-rule}
 use Rattle.plan.specs.Sizes.{maxItems}
 use Rattle.plan.specs.Layout.{planWords, bodyOf}
 use Rattle.plan.specs.Form.{inForm}
@@ -68,7 +69,7 @@ module _ (B : Body) (C D : List ℕ) (a : ℕ) (done : (b : ℕ) → doneBy D b 
   unfolding isReady waitsTest metTest
   ready-stays b n e =
       rw (done-other b n)
-      (and-parts {a = ltb (doneBy C b) (B .passes)} refl
+      (and-parts {a = ltb (doneBy C b) (itemPasses B b)} refl
       (all-ext (itemCount B) (λ c. metTest B (doneBy D) (doneBy C b) c b) (λ c. metTest B (doneBy C) (doneBy C b) c b) (λ c l. met c)))
     where
       met : (c : ℕ) → metTest B (doneBy D) (doneBy C b) c b ≡ metTest B (doneBy C) (doneBy C b) c b
@@ -115,25 +116,25 @@ module _ (plan : List ℕ) (long : planWords ≤ length plan) (formed : formedPl
     accepted-ready a h =
         let r = start-rule plan (s .counts) (s .values) idle-clear a .0 h in (
           r .in-range,
-          and-intro (ltb (doneBy (s .counts) a) (planBody plan .passes)) (waitsTest (planBody plan) (doneBy (s .counts)) (doneBy (s .counts) a) a)
-              (lt-ltb (doneBy (s .counts) a) (planBody plan .passes) (r .left))
+          and-intro (ltb (doneBy (s .counts) a) (itemPasses (planBody plan) a)) (waitsTest (planBody plan) (doneBy (s .counts)) (doneBy (s .counts) a) a)
+              (lt-ltb (doneBy (s .counts) a) (itemPasses (planBody plan) a) (r .left))
               (waits-decided (planBody plan) (plan-fits (take planWords plan) formed) (plan-small (take planWords plan) formed .regions) (doneBy (s .counts)) a (doneBy (s .counts) a) (r .in-range) .1
-              (subst (WaitsMet (planBody plan) (doneBy (s .counts)) a) (I .idle a (r .in-range)) (record { same-pass = r .same-pass; pass-before = r .pass-before }))),
+              (subst (WaitsMet (planBody plan) (doneBy (s .counts)) a) (I .idle a (r .in-range)) (rule-waits (planBody plan) (plan-fits (take planWords plan) formed) (stateOf (s .counts) (s .values)) a r))),
         )
 
     pub ready-accepted : (a : ℕ) → a < itemCount (planBody plan) → isReady (planBody plan) (s .counts) a ≡ true → Accepts plan s (start a)
     unfolding isReady
     ready-accepted a l h =
-        let p = and-true (ltb (doneBy (s .counts) a) (planBody plan .passes)) (waitsTest (planBody plan) (doneBy (s .counts)) (doneBy (s .counts) a) a) h in
+        let p = and-true (ltb (doneBy (s .counts) a) (itemPasses (planBody plan) a)) (waitsTest (planBody plan) (doneBy (s .counts)) (doneBy (s .counts) a) a) h in
         let w = waits-decided (planBody plan) (plan-fits (take planWords plan) formed) (plan-small (take planWords plan) formed .regions) (doneBy (s .counts)) a (doneBy (s .counts) a) l .0 (p .1) in
         let v = subst (WaitsMet (planBody plan) (doneBy (s .counts)) a) (sym (I .idle a l)) w in
         start-rule plan (s .counts) (s .values) idle-clear a .1
-        (record { in-range = l; left = ltb-true (doneBy (s .counts) a) (planBody plan .passes) (p .0); idle = I .idle a l; same-pass = v .same-pass; pass-before = v .pass-before })
+        (waits-rule (planBody plan) (stateOf (s .counts) (s .values)) a l (ltb-true (doneBy (s .counts) a) (itemPasses (planBody plan) a) (p .0)) (I .idle a l) v)
 
     -- the finished passes of all items
     pub done-most : sumBelow (itemCount (planBody plan)) (doneBy (s .counts)) ≤ itemCount (planBody plan) * planBody plan .passes
     done-most =
-        let m = sum-le (itemCount (planBody plan)) (doneBy (s .counts)) (λ k. planBody plan .passes) (λ k l. formed-counts plan (s .counts) (s .values) .0 (I .formed) k l .0) in
+        let m = sum-le (itemCount (planBody plan)) (doneBy (s .counts)) (λ k. planBody plan .passes) (λ k l. omega (arith, formed-counts plan (s .counts) (s .values) .0 (I .formed) k l .0, passes-most (planBody plan) (itemAt (planBody plan) k) .0)) in
         subst (λ (x : ℕ). sumBelow (itemCount (planBody plan)) (doneBy (s .counts)) ≤ x) (sum-const (itemCount (planBody plan)) (planBody plan .passes)) m
 
     -- the lowest item that is ready
@@ -261,7 +262,7 @@ module _ (s : Lent) (long formed : Bool) (B : Body) where
   unfolding state
   judge within tests made =
       unless [] (s .counts) (s .values)
-      (refusalOf (long && (leb countWords (length (s .counts)) && leb valueWords (length (s .values)))) (formed && allBelow (itemCount B) (countOk (B .passes) state)) within)
+      (refusalOf (long && (leb countWords (length (s .counts)) && leb valueWords (length (s .values)))) (formed && allBelow (itemCount B) (λ a. countOk (itemPasses B a) state a)) within)
       (unless [] (s .counts) (s .values) tests made)
 
   answerBy : Call → Left

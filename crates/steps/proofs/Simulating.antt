@@ -20,7 +20,7 @@ use Rattle.unroll.specs.Machine.{State, Call as Step, start as startStep, finis
 use Rattle.unroll.specs.Meaning.{Agree}
 use Rattle.unroll.proofs.Local.{local}
 use Rattle.unroll.proofs.Runs.{can-accepts, cannot-refuses, can-steps, can-counts, reply-some, reply-none}
-use Rattle.body.specs.Items.{itemCount}
+use Rattle.body.specs.Items.{itemCount, itemPasses}
 use Rattle.body.specs.Places.{initial, system}
 use Rattle.plan.specs.Sizes.{maxItems}
 use Rattle.plan.specs.Layout.{planWords}
@@ -49,28 +49,28 @@ pub record Tied (plan : List ℕ) (s : Lent) (σ : State) : Type 0 where
   pub agree : Agree (system (planBody plan)) (stateOf (s .counts) (s .values)) σ
 
 -- counts in form stay so
-module _ (passes : ℕ) (s t : State) where
-  formed-same : (b : ℕ) → t .started b ≡ s .started b → t .finished b ≡ s .finished b → CountFormed passes s b → CountFormed passes t b
+module _ (passes : ℕ → ℕ) (s t : State) where
+  formed-same : (b : ℕ) → t .started b ≡ s .started b → t .finished b ≡ s .finished b → CountFormed (passes b) s b → CountFormed (passes b) t b
   formed-same b e f (l, inl k) = (omega arith, inl (omega arith))
   formed-same b e f (l, inr (k, m)) = (omega arith, inr (omega arith, omega arith))
 
   -- over a start and a finish of item a
 
-  formed-start : (a : ℕ) → s .finished a < passes → s .started a ≡ s .finished a → (b : ℕ) → t .started b ≡ update (s .started) a (suc (s .started a)) b →
-      t .finished b ≡ s .finished b → CountFormed passes s b → CountFormed passes t b
+  formed-start : (a : ℕ) → s .finished a < passes a → s .started a ≡ s .finished a → (b : ℕ) → t .started b ≡ update (s .started) a (suc (s .started a)) b →
+      t .finished b ≡ s .finished b → CountFormed (passes b) s b → CountFormed (passes b) t b
   formed-start a l i =
-      update-ind (λ b r. t .started b ≡ r → t .finished b ≡ s .finished b → CountFormed passes s b → CountFormed passes t b) (s .started) a (suc (s .started a))
+      update-ind (λ b r. t .started b ≡ r → t .finished b ≡ s .finished b → CountFormed (passes b) s b → CountFormed (passes b) t b) (s .started) a (suc (s .started a))
       (λ e f k. (omega arith, inr (omega arith, omega arith)))
       (λ b ne e f k. formed-same b e f k)
 
-  formed-finish-own : (a : ℕ) → s .started a ≡ suc (s .finished a) → t .finished a ≡ suc (s .finished a) → t .started a ≡ s .started a → CountFormed passes s a → CountFormed passes t a
+  formed-finish-own : (a : ℕ) → s .started a ≡ suc (s .finished a) → t .finished a ≡ suc (s .finished a) → t .started a ≡ s .started a → CountFormed (passes a) s a → CountFormed (passes a) t a
   formed-finish-own a r e f (l, inl k) = absurd (omega arith)
   formed-finish-own a r e f (l, inr (k, m)) = (omega arith, inl (omega arith))
 
   formed-finish : (a : ℕ) → s .started a ≡ suc (s .finished a) → (b : ℕ) → t .finished b ≡ update (s .finished) a (suc (s .finished a)) b →
-      t .started b ≡ s .started b → CountFormed passes s b → CountFormed passes t b
+      t .started b ≡ s .started b → CountFormed (passes b) s b → CountFormed (passes b) t b
   formed-finish a r =
-      update-ind (λ b v. t .finished b ≡ v → t .started b ≡ s .started b → CountFormed passes s b → CountFormed passes t b) (s .finished) a (suc (s .finished a))
+      update-ind (λ b v. t .finished b ≡ v → t .started b ≡ s .started b → CountFormed (passes b) s b → CountFormed (passes b) t b) (s .finished) a (suc (s .finished a))
       (λ e f k. formed-finish-own a r e f k)
       (λ b ne e f k. formed-same b f e k)
 
@@ -190,7 +190,7 @@ module _ (plan : List ℕ) where
           long-counts = omega (arith, t .long-counts, length-set (s .counts) a (suc (getD (s .counts) a 0)));
           long-values = omega (arith, t .long-values, length-set (s .values) (firstHeld + a) (wordNow plan (s .counts) (s .values) a));
           formed = formed-counts plan (started plan (s .counts) (s .values) a .counts) (started plan (s .counts) (s .values) a .values) .1
-              (λ b l. formed-start (planBody plan .passes) (stateOf (s .counts) (s .values)) (stateOf (started plan (s .counts) (s .values) a .counts) (started plan (s .counts) (s .values) a .values))
+              (λ b l. formed-start (itemPasses (planBody plan)) (stateOf (s .counts) (s .values)) (stateOf (started plan (s .counts) (s .values) a .counts) (started plan (s .counts) (s .values) a .values))
               a (k .left) (k .idle) b (g .started b l) (g .finished b l) (formed-counts plan (s .counts) (s .values) .0 (t .formed) b l));
           agree = g;
         }
@@ -204,8 +204,7 @@ module _ (plan : List ℕ) where
           long-counts = omega (arith, t .long-counts, length-set (s .counts) (firstFinished + a) (suc (getD (s .counts) (firstFinished + a) 0)));
           long-values = omega (arith, t .long-values, length-replaced (λ x. mem x (system (planBody plan) .writes a)) (λ x. getD (s .values) (firstHeld + a) 0) (s .values));
           formed = formed-counts plan (finished plan (s .counts) (s .values) a .counts) (finished plan (s .counts) (s .values) a .values) .1
-              (λ b l. formed-finish (planBody plan .passes) (stateOf (s .counts) (s .values))
-              (stateOf (finished plan (s .counts) (s .values) a .counts) (finished plan (s .counts) (s .values) a .values))
+              (λ b l. formed-finish (itemPasses (planBody plan)) (stateOf (s .counts) (s .values)) (stateOf (finished plan (s .counts) (s .values) a .counts) (finished plan (s .counts) (s .values) a .values))
               a (k .running) b (g .finished b l) (g .started b l) (formed-counts plan (s .counts) (s .values) .0 (t .formed) b l));
           agree = g;
         }

@@ -11,7 +11,7 @@ use Rattle.finite.specs.Update.{replaced}
 use Rattle.unroll.specs.Sequential.{wordOn}
 use Rattle.unroll.specs.Machine.{State}
 use Rattle.body.specs.Body.{Body, firstSlot}
-use Rattle.body.specs.Items.{itemCount}
+use Rattle.body.specs.Items.{itemCount, itemPasses}
 use Rattle.body.specs.Places.{initial, system, resultOf as regionResult}
 use Rattle.edges.specs.Tests.{kindAt, waitsTest}
 use Rattle.graph.specs.Answers.{refusalOf, longPlan, formedPlan, planBody, isItem}
@@ -24,20 +24,21 @@ pub record Left : Type 0 where
   pub counts : List ℕ
   pub values : List ℕ
 
--- the counts of item a are in form: it has finished no more passes than the plan has, and started as many, or one more with a pass left
+-- the counts of item a, which has so many passes, are in form: it has finished no more than it has,
+-- and started as many, or one more with a pass left
 abbrev pub countOk : ℕ → State → ℕ → Bool
 countOk passes s a =
     leb (s .finished a) passes
     && (eqb (s .started a) (s .finished a) || (eqb (s .started a) (s .finished a + 1) && ltb (s .finished a) passes))
 
--- every item has finished every pass
+-- every item has finished every pass that it has
 abbrev pub isComplete : Body → State → Bool
-isComplete B s = allBelow (itemCount B) (λ a. eqb (s .finished a) (B .passes))
+isComplete B s = allBelow (itemCount B) (λ a. eqb (s .finished a) (itemPasses B a))
 
 -- 14, 15 and 16 of a start, 17 of a finish, 18 of a result; 0 where none holds. The test of the waits is the rule's (Demands, demand 2)
 abbrev pub startTests : Body → State → ℕ → ℕ
 startTests B s a =
-    cond (ltb (s .finished a) (B .passes))
+    cond (ltb (s .finished a) (itemPasses B a))
     (cond (eqb (s .started a) (s .finished a))
     (cond (waitsTest B (s .finished) (s .started a) a) 0 16)
     15)
@@ -68,7 +69,7 @@ module _ (plan counts values : List ℕ) where
   longSlices = longPlan plan && (leb countWords (length counts) && leb valueWords (length values))
 
   abbrev pub formedCounts : Bool
-  formedCounts = allBelow (itemCount (planBody plan)) (countOk (planBody plan .passes) (stateOf counts values))
+  formedCounts = allBelow (itemCount (planBody plan)) (λ a. countOk (itemPasses (planBody plan) a) (stateOf counts values) a)
 
   -- 11, 12 and 13 of a step or result, whose number lies within its limit or not
   abbrev pub callRefusal : Bool → ℕ

@@ -8,7 +8,7 @@ use lib.Dec.{ltb}
 use lib.ListN.{length, getD}
 use Rattle.finite.specs.Below.{sumBelow}
 use Rattle.body.specs.Body.{Body}
-use Rattle.body.specs.Items.{itemCount}
+use Rattle.body.specs.Items.{itemCount, itemPasses}
 use Rattle.edges.specs.Tests.{waitsTest}
 use Rattle.graph.specs.Answers.{planBody}
 use Rattle.steps.specs.State.{countWords, valueWords, firstFinished}
@@ -22,7 +22,7 @@ doneBy counts a = getD counts (firstFinished + a) 0
 
 -- an item that does not run may start: it has a pass left, and its waits are met
 unfoldable pub isReady : Body → List ℕ → ℕ → Bool
-isReady B counts a = ltb (doneBy counts a) (B .passes) && waitsTest B (doneBy counts) (doneBy counts a) a
+isReady B counts a = ltb (doneBy counts a) (itemPasses B a) && waitsTest B (doneBy counts) (doneBy counts a) a
 
 module _ (plan : List ℕ) where
   -- a lent state in form in which no item runs

@@ -1,5 +1,5 @@
 -- Demand 3 from the opening of a plan in form: `InAnyOrder` of specs/Demands.antt.
-use Prim.Native.Nat.{ℕ, suc, _+_, _*_, _≤_, _<_}
+use Prim.Native.Nat.{ℕ, suc, _+_, _≤_, _<_}
 use mathlib.Core.Path.{_≡_, refl, sym, _∙_, ap, subst}
 use mathlib.Core.Bool.{true, cond}
 use mathlib.Core.Logic.{_↔_}
@@ -18,7 +18,7 @@ use Rattle.unroll.specs.AnyOrder.{End, reached, times}
 use Rattle.unroll.proofs.Decide.{decides}
 use Rattle.body.specs.Body.{Body}
 use Rattle.body.specs.Transfers.{lastBefore}
-use Rattle.body.specs.Items.{task, writer, itemCount, itemAt}
+use Rattle.body.specs.Items.{task, writer, itemCount, itemAt, itemPasses, totalSteps}
 use Rattle.body.specs.Places.{copy, writesOf, system, resultFrom, resultOf}
 use Rattle.body.specs.Loop.{loopWord, loopFinal}
 use Rattle.body.specs.Computes.{Computes}
@@ -82,7 +82,7 @@ module _ (plan : List ℕ) (long : planWords ≤ length plan) (formed : formedPl
   end-shown l = (λ e a la. sym (finishes-shown a l) ∙ e a la, λ e a la. finishes-shown a l ∙ e a la)
 
   starts : (k : List Call) (a : ℕ) → callAfter B plan s k (start a) .refusal ≡ 0 →
-      (a < itemCount B) × (startsOf B plan s a k < B .passes) × (callAfter B plan s k (start a) .word ≡ loopWord B (startsOf B plan s a k) (writer (itemAt B a)))
+      (a < itemCount B) × (startsOf B plan s a k < itemPasses B a) × (callAfter B plan s k (start a) .word ≡ loopWord B (startsOf B plan s a k) (writer (itemAt B a)))
   starts k a z =
       rw (starts-times a k)
       (computed .answers (stepsOf k) (startStep a) (callAfter B plan s k (start a) .word)
@@ -96,7 +96,7 @@ module _ (plan : List ℕ) (long : planWords ≤ length plan) (formed : formedPl
       rw (starts-times a k, finishes-times a k)
       (r .0, computed .any-order .last-started (stepsOf k) a (callAfter B plan s k (finish a) .word) e, r .2)
 
-  goes-on : (l : List Call) (a : ℕ) → a < itemCount B → finishesOf B plan s a l < B .passes → (c : Call) × (isStep c ≡ true) × (callAfter B plan s l c .refusal ≡ 0)
+  goes-on : (l : List Call) (a : ℕ) → a < itemCount B → finishesOf B plan s a l < itemPasses B a → (c : Call) × (isStep c ≡ true) × (callAfter B plan s l c .refusal ≡ 0)
   goes-on l a la m =
       let r = computed .any-order .progress (stepsOf l) a la (omega (arith, finishes-shown a l)) in
       (callOf (r .0), picks-steps .steps (r .0), step-follows plan can long formed (play plan s l) (reached (system B) can (stepsOf l)) (r .0) (tied l) .replied (r .1) (r .2))
@@ -113,7 +113,7 @@ module _ (plan : List ℕ) (long : planWords ≤ length plan) (formed : formedPl
         end-shown (l ++ map callOf k) .1 (rw (steps-append l (map callOf k), steps-calls k) e),
       )
 
-  ends : (l : List Call) → AtEnd B plan s l ↔ (accepted plan isStep s l ≡ 2 * (B .passes * itemCount B))
+  ends : (l : List Call) → AtEnd B plan s l ↔ (accepted plan isStep s l ≡ totalSteps B)
   ends l =
       let n = play-accepted plan can long formed isStep anyCall picks-steps l s (opening (system B)) open-tied in
       (λ e. n ∙ computed .ends (stepsOf l) .0 (end-shown l .0 e), λ e. end-shown l .1 (computed .ends (stepsOf l) .1 (sym n ∙ e)))

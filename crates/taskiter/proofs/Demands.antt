@@ -2,12 +2,15 @@
 use Prim.Native.Nat.{ℕ, _+_, _≤_, _<_}
 use mathlib.Core.Path.{_≡_, refl, sym, _∙_, ap, subst}
 use mathlib.Core.Bool.{Bool, true, false, cond}
+use mathlib.Core.Logic.{_↔_}
 use mathlib.Core.List.{List, [], _++_}
 use native.Mathlib.Omega.{arith}
+use borrow.Author.Tests.{le-leb}
 use lib.Dec.{leb}
 use lib.ListN.{length, getD, take, drop, replicate}
 use lib.Seq.{take-at}
 use Rattle.body.specs.Transfers.{transferCount}
+use Rattle.body.specs.Items.{totalSteps}
 use Rattle.body.proofs.Theorems.{laws as body-laws}
 use Rattle.plan.specs.Limits.{maxBytes, maxTransfers, maxWord}
 use Rattle.plan.specs.Layout.{planWords, bodyOf}
@@ -19,20 +22,21 @@ use Rattle.reading.specs.Laws.{Says, Holds, Answers}
 use Rattle.reading.proofs.Theorems.{laws as reading-laws, text-laws}
 use Rattle.reader.specs.declared.Answer.{Answer}
 use Rattle.reader.specs.Answer.{Reads, answerOf, leftIn}
-use Rattle.graph.specs.Answers.{planBody}
+use Rattle.graph.specs.declared.Number.{Number}
+use Rattle.graph.specs.Answers.{formedPlan, planBody, TotalAnswer}
 use Rattle.graph.proofs.Small.{plan-fits}
 use Rattle.steps.specs.State.{countWords, valueWords}
-use Rattle.steps.specs.Answers.{openOf}
-use Rattle.steps.specs.Calls.{lentBy, play}
+use Rattle.steps.specs.Answers.{longSlices, openOf}
+use Rattle.steps.specs.Calls.{Call, Lent, lentBy, play}
 use Rattle.steps.proofs.Accepting.{long-slices, Clear, open-short, open-unchanged, open-accepted, start-clear}
 use Rattle.steps.proofs.Accepting.{start-rule, finish-clear, finish-can, result-clear, result-complete, every-short, every-unchanged}
 use Rattle.steps.proofs.Made.{start-word, start-counts, start-values, finish-word, finish-counts, finish-size, finish-written, finish-unwritten}
-use Rattle.taskiter.specs.Demands.{FitTold, TextRead, PlanReady, Steps, Demand1, Demand2, Opened, Demand3, Demands}
+use Rattle.taskiter.specs.Demands.{FitTold, TextRead, PlanReady, Steps, Demand1, Demand2, stepsOf, AtEnd, InAnyOrder, Opened, Demand3, Demands}
 use Rattle.taskiter.proofs.AnyOrder.{in-any-order}
 use Rattle.taskiter.proofs.Unread.{unread}
 use Rattle.taskiter.proofs.Readiness.{ready-long, ready-form, ready-clear, counts-ready, form-ready, clear-ready}
 use Rattle.taskiter.proofs.Writing.{text-given}
-use Rattle.taskiter.proofs.Giving.{items-given, edges-given}
+use Rattle.taskiter.proofs.Giving.{items-given, edges-given, total-given}
 use Rattle.taskiter.proofs.Replying.{call-word, word-call, in-words, play-refused, play-given}
 use Rattle.taskiter.proofs.Numbering.{numbers, open-made, result-made, room, held-apart, own-rank}
 
@@ -147,7 +151,7 @@ module _ (plan counts values : List ℕ) (words : (i : ℕ) → getD plan i 0 �
       }
 
 demand-2 : Demand2
-demand-2 = record { items = items-given; edges = edges-given; steps = steps; unread = unread }
+demand-2 = record { items = items-given; edges = edges-given; total = total-given; steps = steps; unread = unread }
 
 -- demand 3
 
@@ -162,6 +166,7 @@ opened-order text w behind counts values e long-counts long-values =
       says = (p .0, p .1, subst (λ (v : List ℕ). Holds v (p .0)) (sym (p .2)) (reading-laws .holds (p .0) (p .1 .within)));
       accepted = o .0;
       every-list = o .1;
+      total = λ r A. total-ends size (open-accepted (w ++ behind) counts values .0 (o .0)) r A (o .1);
       stays-ready = λ l. let s = play (w ++ behind) (lentBy (openOf (w ++ behind) counts values)) l in
           counts-ready (w ++ behind) (s .counts) (s .values) (read-ready (s .counts) (s .values) size (o .2 l)) (o .2 l .formed-counts);
       played = λ before calls answers r counts′ values′ answers′ room P.
@@ -172,6 +177,18 @@ opened-order text w behind counts values e long-counts long-values =
     read-ready c v size k =
         let l = long-slices (w ++ behind) c v .0 (k .long) in
         record { long-plan = l .0; long-counts = l .1; long-values = l .2; read = (text, e ∙ ap readTo (sym (take-at w behind planWords size))) }
+
+    opened : Lent
+    opened = lentBy (openOf (w ++ behind) counts values)
+
+    total-ends : length w ≡ planWords → (longSlices (w ++ behind) counts values ≡ true) × (formedPlan (w ++ behind) ≡ true) → (r : Number) → TotalAnswer (w ++ behind) r →
+        ((l : List Call) → InAnyOrder (bodyOf w) (w ++ behind) opened l) →
+        (r .refusal ≡ 0) × ((l : List Call) → AtEnd (bodyOf w) (w ++ behind) opened l ↔ (stepsOf (bodyOf w) (w ++ behind) opened l ≡ r .number))
+    total-ends size k r A order =
+        let long = long-slices (w ++ behind) counts values .0 (k .0) .0 in
+        let z : r .refusal ≡ 0 = A .refusal ∙ rw (le-leb planWords (length (w ++ behind)) long, k .1) in
+        let is : r .number ≡ totalSteps (bodyOf w) = A .total z ∙ ap (λ (v : List ℕ). totalSteps (bodyOf v)) (take-at w behind planWords size) in
+        (z, λ l. (λ h. order l .ends .0 h ∙ sym is, λ h. order l .ends .1 (h ∙ is)))
 
 demand-3 : Demand3
 demand-3 = record { any-order = opened-order; word-of = call-word; call-of = word-call; in-words = in-words }

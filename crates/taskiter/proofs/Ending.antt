@@ -10,6 +10,7 @@ use native.Mathlib.Omega.{arith}
 use lib.ListN.{length, getD, take}
 use Rattle.finite.proofs.Tests.{not-both}
 use Rattle.body.specs.Loop.{loopFinal}
+use Rattle.body.specs.Items.{itemPasses}
 use Rattle.plan.specs.Layout.{planWords}
 use Rattle.graph.specs.Answers.{planBody}
 use Rattle.steps.specs.State.{countWords, valueWords, firstFinished, stateOf}
@@ -101,15 +102,15 @@ module _ (P C W : List ℕ) (opens : openOf P C W .refusal ≡ 0) where
     clear : Clear P (play P (lentBy (openOf P C W)) calls .counts) (play P (lentBy (openOf P C W)) calls .values)
     clear = open-clear P C W opens calls
 
-    -- every item has finished all passes, since some step is accepted while one has not
+    -- every item has finished its passes, since some step is accepted while one has not
     at-end : AtEnd (planBody P) P (lentBy (openOf P C W)) calls
     at-end a l =
-        elim (ℕ-discrete (finishesOf (planBody P) P (lentBy (openOf P C W)) a calls) (planBody P .passes)) [
+        elim (ℕ-discrete (finishesOf (planBody P) P (lentBy (openOf P C W)) a calls) (itemPasses (planBody P) a)) [
           | yes e ↦ e
           | no n ↦ absurd (go (order .goes-on a l (less n)))
         ]
       where
-        less : (finishesOf (planBody P) P (lentBy (openOf P C W)) a calls ≡ planBody P .passes → ⊥) → finishesOf (planBody P) P (lentBy (openOf P C W)) a calls < planBody P .passes
+        less : (finishesOf (planBody P) P (lentBy (openOf P C W)) a calls ≡ itemPasses (planBody P) a → ⊥) → finishesOf (planBody P) P (lentBy (openOf P C W)) a calls < itemPasses (planBody P) a
         less n =
             omega (
               arith,

@@ -2,7 +2,7 @@
 -- is the lent plan, C and W the counts and values.
 use Prim.Native.Nat.{ℕ, _*_, _≤_, _<_}
 use mathlib.Core.Path.{_≡_, refl, sym, _∙_, ap}
-use mathlib.Core.Bool.{Bool, true, false, cond, _&&_}
+use mathlib.Core.Bool.{Bool, true, false, cond, _&&_, and-true as true-behind}
 use mathlib.Core.List.{List, [], _++_, append-assoc, flatMap}
 use native.Mathlib.Decide.{decLt}
 use native.Mathlib.Omega.{arith}
@@ -11,12 +11,12 @@ use lib.Dec.{eqb, ltb, leb}
 use lib.ListN.{length, take, drop, take-append-drop}
 use lib.Seq.{take-all, length-take-le, drop-append-le}
 use Rattle.finite.proofs.Tests.{and-true, not-both}
-use Rattle.body.specs.Items.{itemCount}
+use Rattle.body.specs.Items.{itemCount, totalSteps}
 use Rattle.plan.specs.Sizes.{maxItems, edgeWords, countWords, valueWords}
 use Rattle.plan.specs.Layout.{planWords}
 use Rattle.graph.specs.declared.Number.{Number}
 use Rattle.graph.specs.Table.{tableOf, Graph}
-use Rattle.graph.specs.Answers.{refusalOf, longPlan, formedPlan, planBody, isItem, three, ItemsAnswer, EdgesAnswer}
+use Rattle.graph.specs.Answers.{refusalOf, longPlan, formedPlan, planBody, isItem, three, ItemsAnswer, EdgesAnswer, TotalAnswer}
 use Rattle.steps.specs.Answers.{Left, formedCounts, longSlices, callRefusal, refused, openOf, startOf, finishOf, resultOf}
 use Rattle.steps.specs.Calls.{lent, start, finish, result, call}
 use Rattle.steps.proofs.Accepting.{refusal-none}
@@ -99,6 +99,23 @@ module _ (P L : List ℕ) where
         listed = λ z. (D .edges, D .all, e ∙ D .count, D .put ∙ ap (λ (x : ℕ). flatMap three (D .edges) ++ drop (3 * x) L) (D .count));
         refused = λ z. absurd (z refl);
       }
+
+-- the total
+
+module _ (P table table′ : List ℕ) (r : Entry) (B : ByPlan P true table r table′) where
+  plan-refusal : r .refusal ≡ refusalOf (longPlan P) (formedPlan P) true
+  plan-refusal = B .refusal ∙ ap (λ (l : Bool). refusalOf l (formedPlan P) true) (true-behind (longPlan P))
+
+  pub total-refused : (q : Number) → (r .refusal ≡ 0 → ⊥) → q ≡ record { refusal = r .refusal; number = 0 } → TotalAnswer P q
+  total-refused q n e =
+      record {
+        refusal = ap (λ (x : Number). x .refusal) e ∙ plan-refusal;
+        total = λ z. absurd (n (sym (ap (λ (x : Number). x .refusal) e) ∙ z));
+        refused = λ z. ap (λ (x : Number). x .number) e;
+      }
+
+  pub total-made : (steps : ℕ) → r .refusal ≡ 0 → steps ≡ totalSteps (planBody P) → TotalAnswer P (record { refusal = 0; number = steps })
+  total-made steps z e = record { refusal = sym z ∙ plan-refusal; total = λ h. e; refused = λ n. absurd (n refl) }
 
 -- what a door that was passed tells of its slices
 pub door-long : (P : List ℕ) (long : Bool) (table table′ : List ℕ) (r : Entry) → ByPlan P long table r table′ → r .refusal ≡ 0 → long ≡ true

@@ -1,4 +1,5 @@
--- Demand 2: what C gets from `taskiter_items` and `taskiter_edges` (specs/Given.antt).
+-- Demand 2: what C gets from `taskiter_items`, `taskiter_edges` and `taskiter_total`
+-- (specs/Given.antt).
 use Prim.Native.Nat.{ℕ, _+_, _*_, _≤_, _<_}
 use mathlib.Core.Path.{_≡_, refl, sym, _∙_, ap, subst}
 use mathlib.Core.Bool.{Bool, true, false, cond, _&&_}
@@ -6,7 +7,7 @@ use mathlib.Core.Logic.{_↔_, inl, inr, ⊎-elim}
 use mathlib.Core.List.{List, _++_, flatMap}
 use native.Mathlib.Decide.{ℕ-discrete, decLt}
 use native.Mathlib.Omega.{arith}
-use borrow.Author.Tests.{le-leb, leb-true}
+use borrow.Author.Tests.{le-leb, lt-leb, leb-true, leb-false}
 use lib.Dec.{leb}
 use lib.ListN.{length, getD, take, drop, length-map, List·getD-append}
 use lib.Seq.{length-take-le}
@@ -21,11 +22,11 @@ use Rattle.plan.specs.Sizes.{maxItems, edgeWords}
 use Rattle.plan.specs.Layout.{planWords}
 use Rattle.graph.specs.declared.Number.{Number}
 use Rattle.graph.specs.Table.{codeOf, tableOf, Graph}
-use Rattle.graph.specs.Answers.{refusalOf, longPlan, formedPlan, planBody, three, ItemsAnswer, EdgesAnswer}
-use Rattle.graph.proofs.Lookup.{code-rank, code-kind, code-subject}
+use Rattle.graph.specs.Answers.{refusalOf, longPlan, formedPlan, planBody, three, ItemsAnswer, EdgesAnswer, TotalAnswer}
+use Rattle.graph.proofs.Lookup.{code-rank, code-fewer, code-kind, code-subject}
 use Rattle.graph.proofs.Theorems.{laws as graph-laws}
 use Rattle.walk.proofs.Listing.{length-three}
-use Rattle.taskiter.specs.Given.{ShortOf, GraphGiven, SaysItem, ItemsGiven, edgeAt, EdgesGiven}
+use Rattle.taskiter.specs.Given.{FromText, ShortOf, GraphGiven, SaysItem, ItemsGiven, edgeAt, EdgesGiven, GoodPlan, TotalGiven}
 use Rattle.taskiter.proofs.Parts.{getD-part, length-behind, getD-behind}
 use Rattle.taskiter.proofs.Readiness.{read-formed, formed-read}
 
@@ -60,6 +61,37 @@ refusal-tests false formed room n e = (
   (λ h. absurd (omega arith), λ h. absurd (not-both (h .0 .0) refl)),
   (λ h. absurd (omega arith), λ h. absurd (not-both (h .0 .0) refl)),
 )
+
+-- the plan alone is looked at, and perhaps the room for its text
+module _ (plan : List ℕ) (words : (i : ℕ) → getD plan i 0 ≤ maxWord) where
+  pub good-plan : ((longPlan plan ≡ true) × (formedPlan plan ≡ true)) ↔ GoodPlan plan
+  good-plan = (
+    λ h. let l : planWords ≤ length plan = leb-true _ _ (h .0) in (l, formed-read plan words l (h .1)),
+    λ h. (le-leb planWords (length plan) (h .0), read-formed plan (h .1)),
+  )
+
+  module _ (room : Bool) (n : ℕ) (tests : Tests (longPlan plan) (formedPlan plan) room n) where
+    pub plan-11 : (n ≡ 11) ↔ (length plan < planWords)
+    plan-11 = (λ e. leb-false _ _ (tests .0 .0 e), λ l. tests .0 .1 (lt-leb planWords (length plan) l))
+
+    pub plan-12 : (n ≡ 12) ↔ ((planWords ≤ length plan) × (FromText plan → ⊥))
+    plan-12 = (
+      λ e. let h = tests .1 .0 e in (leb-true _ _ (h .0), λ f. not-both (read-formed plan f) (h .1)),
+      λ h. tests .1 .1 (le-leb planWords (length plan) (h .0), false-of (formedPlan plan) (λ f. h .1 (formed-read plan words (h .0) f))),
+    )
+
+-- the total
+pub total-given : (plan : List ℕ) (r : Number) → ((i : ℕ) → getD plan i 0 ≤ maxWord) → TotalAnswer plan r → TotalGiven plan r
+total-given plan r words A =
+    let tests = refusal-tests (longPlan plan) (formedPlan plan) true (r .refusal) (A .refusal) in
+    let good = good-plan plan words in
+    record {
+      refusal-11 = plan-11 plan words true (r .refusal) tests;
+      refusal-12 = plan-12 plan words true (r .refusal) tests;
+      refusal-0 = (λ e. good .0 (tests .3 .0 e .0), λ h. tests .3 .1 (good .1 h, refl));
+      refused = A .refused;
+      total = A .total;
+    }
 
 -- a slice of at least n numbers is lent with the plan
 module _ (n : ℕ) (plan slice : List ℕ) where
@@ -153,6 +185,7 @@ module _ (plan table : List ℕ) (r : Number) (table′ : List ℕ) (words : (i 
         record {
           rank = code-rank (take planWords plan) table′ (itemCount (planBody plan)) table-graph a k (getD table′ a 0) refl;
           kind = code-kind (take planWords plan) table′ (itemCount (planBody plan)) table-graph a k (getD table′ a 0) refl;
+          fewer-passes = code-fewer (take planWords plan) table′ (itemCount (planBody plan)) table-graph a k (getD table′ a 0) refl;
           subject = code-subject (take planWords plan) table′ (itemCount (planBody plan)) table-graph a k (getD table′ a 0) refl;
         }
 

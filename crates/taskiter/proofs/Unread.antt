@@ -18,8 +18,9 @@ use Rattle.unroll.specs.Machine.{State}
 use Rattle.unroll.specs.Meaning.{Agree}
 use Rattle.unroll.proofs.Local.{agree-word}
 use Rattle.body.specs.Body.{Body, Fits}
-use Rattle.body.specs.Items.{Item, task, send, receive, kindOf, itemCount, itemAt}
+use Rattle.body.specs.Items.{itemCount, itemAt, itemPasses}
 use Rattle.body.specs.Places.{slot, copy, system, resultOf as regionResult}
+use Rattle.body.proofs.Accessed.{send-from}
 use Rattle.edges.specs.Tests.{kindAt, metTest, waitsTest}
 use Rattle.plan.specs.Layout.{planWords, bodyOf}
 use Rattle.plan.specs.Form.{inForm}
@@ -36,11 +37,11 @@ use Rattle.taskiter.proofs.AnyOrder.{result-agree}
 
 -- the tests, on states with the same counts of items
 module _ (B : Body) (s t : State) (started-same : (a : ℕ) → a < itemCount B → s .started a ≡ t .started a) (finished-same : (a : ℕ) → a < itemCount B → s .finished a ≡ t .finished a) where
-  counts-same : allBelow (itemCount B) (countOk (B .passes) s) ≡ allBelow (itemCount B) (countOk (B .passes) t)
-  counts-same = all-ext (itemCount B) (countOk (B .passes) s) (countOk (B .passes) t) (λ a l. rw (started-same a l, finished-same a l))
+  counts-same : allBelow (itemCount B) (λ a. countOk (itemPasses B a) s a) ≡ allBelow (itemCount B) (λ a. countOk (itemPasses B a) t a)
+  counts-same = all-ext (itemCount B) (λ a. countOk (itemPasses B a) s a) (λ a. countOk (itemPasses B a) t a) (λ a l. rw (started-same a l, finished-same a l))
 
   complete-same : isComplete B s ≡ isComplete B t
-  complete-same = all-ext (itemCount B) (λ a. eqb (s .finished a) (B .passes)) (λ a. eqb (t .finished a) (B .passes)) (λ a l. rw (finished-same a l))
+  complete-same = all-ext (itemCount B) (λ a. eqb (s .finished a) (itemPasses B a)) (λ a. eqb (t .finished a) (itemPasses B a)) (λ a l. rw (finished-same a l))
 
   waits-same : (p a : ℕ) → waitsTest B (s .finished) p a ≡ waitsTest B (t .finished) p a
   unfolding waitsTest metTest
@@ -55,12 +56,7 @@ module _ (B : Body) (s t : State) (started-same : (a : ℕ) → a < itemCount B 
 -- states that are the same where a body uses them agree on what its items access
 module _ (B : Body) (s t : Lent) (U : SameUsed B s t) where
   kind-slot : (a : ℕ) → a < itemCount B → kindAt B a ≡ 1 → UsedValue B (slot a)
-  kind-slot a l = go (itemAt B a) refl
-    where
-      go : (y : Item) → itemAt B a ≡ y → kindOf y ≡ 1 → UsedValue B (slot a)
-      go (task i) e z = absurd (omega arith)
-      go (send i g q) e z = of-slot a i g q l e refl
-      go (receive i g q) e z = absurd (omega arith)
+  kind-slot a l k = let r = send-from (itemAt B a) k in of-slot a (r .0) (r .1) (r .2) l (r .3) refl
 
   used-agree : Fits B → Agree (system B) (stateOf (s .counts) (s .values)) (stateOf (t .counts) (t .values))
   used-agree F =
@@ -110,7 +106,7 @@ module _ (plan plan′ : List ℕ) (s t : Lent) (e : take planWords plan ≡ tak
   counts-used : formedCounts plan (s .counts) (s .values) ≡ formedCounts plan′ (t .counts) (t .values)
   counts-used =
       counts-same B here there started-used finished-used
-      ∙ ap (λ (w : List ℕ). allBelow (itemCount (bodyOf w)) (countOk (bodyOf w .passes) there)) e
+      ∙ ap (λ (w : List ℕ). allBelow (itemCount (bodyOf w)) (λ a. countOk (itemPasses (bodyOf w) a) there a)) e
 
   call-same : (in-s in-t : Bool) → in-s ≡ in-t → callRefusal plan (s .counts) (s .values) in-s ≡ callRefusal plan′ (t .counts) (t .values) in-t
   call-same in-s in-t i = rw (long, long′) (ap₂ (refusalOf true) (and-parts (ap inForm e) counts-used) i)

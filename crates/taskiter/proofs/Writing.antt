@@ -2,6 +2,7 @@
 use Prim.Native.Nat.{ℕ, _≤_, _<_}
 use mathlib.Core.Path.{_≡_, refl, _∙_, ap}
 use mathlib.Core.Bool.{true}
+use mathlib.Core.Logic.{_↔_}
 use mathlib.Core.List.{List}
 use native.Mathlib.Decide.{ℕ-discrete}
 use native.Mathlib.Omega.{arith}
@@ -9,7 +10,6 @@ use borrow.Author.Tests.{le-leb, lt-leb, leb-true, leb-false}
 use lib.Dec.{leb}
 use lib.ListN.{length, getD, take, drop}
 use lib.Seq.{take-append-seam}
-use Rattle.finite.proofs.Tests.{not-both, false-of}
 use Rattle.plan.specs.Limits.{maxWord}
 use Rattle.plan.specs.Layout.{planWords}
 use Rattle.reading.specs.Plan.{Plan}
@@ -21,22 +21,19 @@ use Rattle.graph.specs.declared.Number.{Number}
 use Rattle.graph.specs.Answers.{longPlan, formedPlan}
 use Rattle.writer.specs.Answer.{WriteAnswer, planText}
 use Rattle.taskiter.specs.Given.{GoodPlan, TextGiven}
-use Rattle.taskiter.proofs.Giving.{Tests, refusal-tests}
+use Rattle.taskiter.proofs.Giving.{Tests, refusal-tests, good-plan, plan-11, plan-12}
 use Rattle.taskiter.proofs.Parts.{length-behind, getD-behind}
-use Rattle.taskiter.proofs.Readiness.{cut-words, read-formed, formed-read}
+use Rattle.taskiter.proofs.Readiness.{cut-words, read-formed}
 
 module _ (plan text : List ℕ) (r : Number) (text′ : List ℕ) (words : (i : ℕ) → getD plan i 0 ≤ maxWord) (A : WriteAnswer plan text r text′) where
   tests : Tests (longPlan plan) (formedPlan plan) (leb (length (planText plan)) (length text)) (r .refusal)
   tests = refusal-tests (longPlan plan) (formedPlan plan) (leb (length (planText plan)) (length text)) (r .refusal) (A .refusal)
 
-  written : (longPlan plan ≡ true) × (formedPlan plan ≡ true) → GoodPlan plan
-  written h = let l : planWords ≤ length plan = leb-true _ _ (h .0) in (l, formed-read plan words l (h .1))
-
-  tested : GoodPlan plan → (longPlan plan ≡ true) × (formedPlan plan ≡ true)
-  tested h = (le-leb planWords (length plan) (h .0), read-formed plan (h .1))
+  good : ((longPlan plan ≡ true) × (formedPlan plan ≡ true)) ↔ GoodPlan plan
+  good = good-plan plan words
 
   accepted : r .refusal ≡ 0 → GoodPlan plan × (length (planText plan) ≤ length text)
-  accepted z = let h = tests .3 .0 z in (written (h .0), leb-true _ _ (h .1))
+  accepted z = let h = tests .3 .0 z in (good .0 (h .0), leb-true _ _ (h .1))
 
   begins : r .refusal ≡ 0 → take (r .number) text′ ≡ planText plan
   begins z =
@@ -57,16 +54,13 @@ module _ (plan text : List ℕ) (r : Number) (text′ : List ℕ) (words : (i : 
   pub text-given : TextGiven plan text r text′
   text-given =
       record {
-        refusal-11 = (λ e. leb-false _ _ (tests .0 .0 e), λ l. tests .0 .1 (lt-leb planWords (length plan) l));
-        refusal-12 = (
-          λ e. let h = tests .1 .0 e in (leb-true _ _ (h .0), λ f. not-both (read-formed plan f) (h .1)),
-          λ h. tests .1 .1 (le-leb planWords (length plan) (h .0), false-of (formedPlan plan) (λ f. h .1 (formed-read plan words (h .0) f))),
-        );
+        refusal-11 = plan-11 plan words _ _ tests;
+        refusal-12 = plan-12 plan words _ _ tests;
         refusal-19 = (
-          λ e. let h = tests .2 .0 e in (written (h .0), leb-false _ _ (h .1)),
-          λ h. tests .2 .1 (tested (h .0), lt-leb (length (planText plan)) (length text) (h .1)),
+          λ e. let h = tests .2 .0 e in (good .0 (h .0), leb-false _ _ (h .1)),
+          λ h. tests .2 .1 (good .1 (h .0), lt-leb (length (planText plan)) (length text) (h .1)),
         );
-        refusal-0 = (accepted, λ h. tests .3 .1 (tested (h .0), le-leb (length (planText plan)) (length text) (h .1)));
+        refusal-0 = (accepted, λ h. tests .3 .1 (good .1 (h .0), le-leb (length (planText plan)) (length text) (h .1)));
         refused = A .refused;
         size =
             elim (ℕ-discrete (r .refusal) 0) [
@@ -83,7 +77,7 @@ module _ (plan text : List ℕ) (r : Number) (text′ : List ℕ) (words : (i : 
         rises = rises;
         enough = λ l e.
             let h = tests .2 .0 e in
-            let k = written (h .0) in
+            let k = good .0 (h .0) in
             let s : length text < length (planText plan) = leb-false _ _ (h .1) in
             omega (arith, text-laws .longest (take planWords plan) (cut-words plan words (k .0)) (h .0 .1));
       }

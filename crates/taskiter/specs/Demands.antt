@@ -1,6 +1,8 @@
--- The three demands on the runtime, stated over the contracts of its functions (src/lib.rt): the definitions that they are equated with, `openOf`,
--- `startOf`, `finishOf`, `resultOf` of the crate steps, and the records that hold of their answers, `Reads`, `ItemsAnswer`, `EdgesAnswer`,
--- `Played` and `WriteAnswer`. Proved in proofs/Demands.antt. That nothing undefined is done and every call ends is the check of the code itself.
+-- The three demands on the runtime, stated over the contracts of its functions (src/lib.rt): the
+-- definitions that they are equated with, `openOf`, `startOf`, `finishOf`, `resultOf` of the crate
+-- steps, and the records that hold of their answers, `Reads`, `ItemsAnswer`, `EdgesAnswer`,
+-- `TotalAnswer`, `Played` and `WriteAnswer`. Proved in proofs/Demands.antt. That nothing undefined
+-- is done and every call ends is the check of the code itself.
 use Prim.Native.Nat.{ℕ, suc, _+_, _*_, _≤_, _<_}
 use mathlib.Core.Path.{_≡_}
 use mathlib.Core.Bool.{true, false, cond}
@@ -16,7 +18,7 @@ use Rattle.unroll.specs.Meaning.{StartRule}
 use Rattle.body.specs.Body.{Body, firstSlot}
 use Rattle.body.specs.Loop.{loopWord, loopFinal}
 use Rattle.body.specs.Transfers.{transferCount}
-use Rattle.body.specs.Items.{send, writer, itemRank, itemCount, itemAt}
+use Rattle.body.specs.Items.{send, writer, itemRank, itemCount, itemAt, itemPasses, totalSteps}
 use Rattle.body.specs.Places.{slot, copy, system}
 use Rattle.body.specs.Meaning.{LastWriter, Meaning}
 use Rattle.plan.specs.Limits.{maxBytes, maxTransfers, maxWord}
@@ -31,12 +33,12 @@ use Rattle.reading.specs.Laws.{Says, Holds, TextLaws}
 use Rattle.reader.specs.declared.Answer.{Answer}
 use Rattle.reader.specs.Answer.{Reads}
 use Rattle.graph.specs.declared.Number.{Number}
-use Rattle.graph.specs.Answers.{planBody, ItemsAnswer, EdgesAnswer}
+use Rattle.graph.specs.Answers.{planBody, ItemsAnswer, EdgesAnswer, TotalAnswer}
 use Rattle.writer.specs.Answer.{WriteAnswer}
 use Rattle.steps.specs.State.{countWords, valueWords, firstFinished, firstHeld, stateOf}
 use Rattle.steps.specs.Answers.{Left, openOf, startOf, finishOf, resultOf}
 use Rattle.steps.specs.Calls.{Call, start, finish, result, isStart, isFinish, isStep, Lent, lent, lentBy, call, play, replies, accepted}
-use Rattle.taskiter.specs.Given.{FromText, ItemsGiven, EdgesGiven, TextGiven}
+use Rattle.taskiter.specs.Given.{FromText, ItemsGiven, EdgesGiven, TotalGiven, TextGiven}
 use Rattle.taskiter.specs.Played.{callOf, callsOf, ahead, wordOf, numberOf, callNumbers, Played}
 
 -- Demand 1. Every text, every lent buffer and every call gets an answer; a bad text, and no other, gets a refusal number and a line.
@@ -89,7 +91,7 @@ pub record Demand1 : Type 0 where
 
 -- Demand 2. The graph is the published rule's, and steps are accepted exactly by it.
 
--- the counts of item a are in form where the plan has so many passes
+-- the counts of item a are in form where the item has so many passes
 pub record CountInForm (passes : ℕ) (s : State) (a : ℕ) : Type 0 where
   pub finished : s .finished a ≤ passes
   pub started : (s .started a ≡ s .finished a) ⊎ ((s .started a ≡ suc (s .finished a)) × (s .finished a < passes))
@@ -104,7 +106,7 @@ pub record PlanReady (plan counts values : List ℕ) : Type 0 where
 -- besides, the counts of every item are in form: neither 11 nor 12 is given
 pub record Ready (plan counts values : List ℕ) : Type 0 where
   pub plan-ready : PlanReady plan counts values
-  pub counts-formed : (a : ℕ) → a < itemCount (planBody plan) → CountInForm (planBody plan .passes) (stateOf counts values) a
+  pub counts-formed : (a : ℕ) → a < itemCount (planBody plan) → CountInForm (itemPasses (planBody plan) a) (stateOf counts values) a
 
 -- the counts that a plan uses, and of the values the copies, the slots of its sends and the held words
 pub data UsedCount (B : Body) (i : ℕ) : Type 0 where
@@ -155,9 +157,9 @@ Within B (start a) = a < itemCount B
 Within B (finish a) = a < itemCount B
 Within B (result g) = g < B .regions
 
--- the loop is complete
+-- the loop is complete: every item has finished its own passes
 abbrev pub Complete : Body → State → Type 0
-Complete B s = (a : ℕ) → a < itemCount B → s .finished a ≡ B .passes
+Complete B s = (a : ℕ) → a < itemCount B → s .finished a ≡ itemPasses B a
 
 -- each refusal is given exactly when its condition holds and no earlier one does
 pub record Numbers (plan counts values : List ℕ) : Type 0 where
@@ -167,11 +169,11 @@ pub record Numbers (plan counts values : List ℕ) : Type 0 where
   pub call-12 : (c : Call) → (call plan (lent counts values) c .refusal ≡ 12) ↔ ((Short plan counts values → ⊥) × (Ready plan counts values → ⊥))
   pub call-13 : (c : Call) → (call plan (lent counts values) c .refusal ≡ 13) ↔ (Ready plan counts values × (Within (planBody plan) c → ⊥))
   pub start-14 : (a : ℕ) → (startOf plan counts values a .refusal ≡ 14)
-      ↔ (Ready plan counts values × (a < itemCount (planBody plan)) × (stateOf counts values .finished a ≡ planBody plan .passes))
+      ↔ (Ready plan counts values × (a < itemCount (planBody plan)) × (stateOf counts values .finished a ≡ itemPasses (planBody plan) a))
   pub start-15 : (a : ℕ) → (startOf plan counts values a .refusal ≡ 15)
       ↔ (Ready plan counts values × (a < itemCount (planBody plan)) × (stateOf counts values .started a ≡ suc (stateOf counts values .finished a)))
   pub start-16 : (a : ℕ) → (startOf plan counts values a .refusal ≡ 16)
-      ↔ (Ready plan counts values × (a < itemCount (planBody plan)) × (stateOf counts values .finished a < planBody plan .passes)
+      ↔ (Ready plan counts values × (a < itemCount (planBody plan)) × (stateOf counts values .finished a < itemPasses (planBody plan) a)
       × (stateOf counts values .started a ≡ stateOf counts values .finished a) × (StartRule (system (planBody plan)) (stateOf counts values) a → ⊥))
   pub finish-17 : (a : ℕ) → (finishOf plan counts values a .refusal ≡ 17)
       ↔ (Ready plan counts values × (a < itemCount (planBody plan)) × (stateOf counts values .started a ≡ stateOf counts values .finished a))
@@ -194,7 +196,8 @@ pub record Steps (plan counts values : List ℕ) : Type 0 where
   pub room : PlanReady plan counts values → (itemCount (planBody plan) ≤ firstFinished) × (planBody plan .ranks * planBody plan .regions ≤ firstSlot)
   pub held-apart : PlanReady plan counts values → (a b : ℕ) → a < itemCount (planBody plan) → mem (firstHeld + b) (system (planBody plan) .writes a) ≡ false
   pub opens : (openOf plan counts values .refusal ≡ 0) ↔ PlanReady plan counts values
-  -- a start is accepted exactly when the item is in turn and everything it must wait for has finished, a finish exactly when its item runs
+  -- a start is accepted exactly when the item is in turn and everything it must wait for has
+  -- finished or is not made, a finish exactly when its item runs
   pub starts : (a : ℕ) → (startOf plan counts values a .refusal ≡ 0) ↔ (Ready plan counts values × StartRule (system (planBody plan)) (stateOf counts values) a)
   pub finishes : (a : ℕ) → (finishOf plan counts values a .refusal ≡ 0) ↔ (Ready plan counts values × CanFinish (system (planBody plan)) (stateOf counts values) a)
   pub results : (g : ℕ) → (resultOf plan counts values g .refusal ≡ 0)
@@ -207,11 +210,13 @@ pub record Steps (plan counts values : List ℕ) : Type 0 where
   pub shown : (g : ℕ) → resultOf plan counts values g .refusal ≡ 0 → ResultMade (planBody plan) counts values g (resultOf plan counts values g)
 
 pub record Demand2 : Type 0 where
-  -- the graph that C gets, from the contracts of `taskiter_items` and `taskiter_edges`
+  -- the graph that C gets, from the contracts of `taskiter_items` and `taskiter_edges`, and the
+  -- total of steps, from that of `taskiter_total`
   pub items : (plan table : List ℕ) (r : Number) (table′ : List ℕ) → ((i : ℕ) → getD plan i 0 ≤ maxWord) →
       ItemsAnswer plan table r table′ → ItemsGiven plan table r table′
   pub edges : (plan list : List ℕ) (r : Number) (list′ : List ℕ) → ((i : ℕ) → getD plan i 0 ≤ maxWord) →
       EdgesAnswer plan list r list′ → EdgesGiven plan list r list′
+  pub total : (plan : List ℕ) (r : Number) → ((i : ℕ) → getD plan i 0 ≤ maxWord) → TotalAnswer plan r → TotalGiven plan r
   pub steps : (plan counts values : List ℕ) → ((i : ℕ) → getD plan i 0 ≤ maxWord) → Steps plan counts values
   -- what lies behind the sizes, and state that the plan does not use, is not read
   pub unread : (plan plan′ : List ℕ) (s t : Lent) (c : Call) → take planWords plan ≡ take planWords plan′ →
@@ -228,18 +233,21 @@ module _ (B : Body) (plan : List ℕ) (s : Lent) where
   abbrev pub finishesOf : ℕ → List Call → ℕ
   finishesOf a l = accepted plan (isFinish a) s l
 
+  abbrev pub stepsOf : List Call → ℕ
+  stepsOf l = accepted plan isStep s l
+
   -- the call c, made after the list l
   abbrev pub callAfter : List Call → Call → Left
   callAfter l c = call plan (play plan s l) c
 
   -- no item has a pass left
   abbrev pub AtEnd : List Call → Type 0
-  AtEnd l = (a : ℕ) → a < itemCount B → finishesOf a l ≡ B .passes
+  AtEnd l = (a : ℕ) → a < itemCount B → finishesOf a l ≡ itemPasses B a
 
   pub record InAnyOrder (l : List Call) : Type 0 where
     -- an accepted start in the list is of an item, in its next pass, and answers the number of the item's writer in that pass of the loop
     pub starts : (k m : List Call) (a : ℕ) → l ≡ k ++ (start a ∷ m) → callAfter k (start a) .refusal ≡ 0 →
-        (a < itemCount B) × (startsOf a k < B .passes) × (callAfter k (start a) .word ≡ loopWord B (startsOf a k) (writer (itemAt B a)))
+        (a < itemCount B) × (startsOf a k < itemPasses B a) × (callAfter k (start a) .word ≡ loopWord B (startsOf a k) (writer (itemAt B a)))
     -- so does an accepted finish, which belongs to the pass last started
     pub finishes : (k m : List Call) (a : ℕ) → l ≡ k ++ (finish a ∷ m) → callAfter k (finish a) .refusal ≡ 0 →
         (a < itemCount B) × (startsOf a k ≡ suc (finishesOf a k)) × (callAfter k (finish a) .word ≡ loopWord B (finishesOf a k) (writer (itemAt B a)))
@@ -252,10 +260,11 @@ module _ (B : Body) (plan : List ℕ) (s : Lent) where
     -- what the calls of the list answer, one after another
     pub replied : (k m : List Call) (c : Call) → l ≡ k ++ (c ∷ m) → getD (replies plan s l) (length k) (callAfter l c) ≡ callAfter k c
     -- the list does not stop short: while an item has a pass left some step is accepted, and accepted steps lead on to the end
-    pub goes-on : (a : ℕ) → a < itemCount B → finishesOf a l < B .passes → (c : Call) × (isStep c ≡ true) × (callAfter l c .refusal ≡ 0)
+    pub goes-on : (a : ℕ) → a < itemCount B → finishesOf a l < itemPasses B a → (c : Call) × (isStep c ≡ true) × (callAfter l c .refusal ≡ 0)
     pub leads-on : (k : List Call) × (accepted plan isStep (play plan s l) k ≡ length k) × AtEnd (l ++ k)
-    -- the end is reached exactly when the accepted steps are two for each pass of each item
-    pub ends : AtEnd l ↔ (accepted plan isStep s l ≡ 2 * (B .passes * itemCount B))
+    -- the end is reached exactly when the accepted steps are 2 × (passes × items − 2 × wrapped
+    -- transfers), and 0 with no pass
+    pub ends : AtEnd l ↔ (stepsOf l ≡ totalSteps B)
     -- exactly then the result of each region is accepted, and it is the region's final number in the loop
     pub accepts-results : (g : ℕ) → g < B .regions → AtEnd l ↔ (callAfter l (result g) .refusal ≡ 0)
     pub final : (g : ℕ) → callAfter l (result g) .refusal ≡ 0 → callAfter l (result g) .word ≡ loopFinal B g
@@ -285,6 +294,10 @@ pub record Opened (text w plan counts values : List ℕ) : Type 0 where
   pub says : (P : Plan) × Says text P × Holds w P
   pub accepted : openOf plan counts values .refusal ≡ 0
   pub every-list : (l : List Call) → InAnyOrder (bodyOf w) plan (lentBy (openOf plan counts values)) l
+  -- the number that `taskiter_total` answers: a list ends the loop exactly if so many of its steps
+  -- are accepted
+  pub total : (r : Number) → TotalAnswer plan r →
+      let s = lentBy (openOf plan counts values) in (r .refusal ≡ 0) × ((l : List Call) → AtEnd (bodyOf w) plan s l ↔ (stepsOf (bodyOf w) plan s l ≡ r .number))
   -- after every list plan and state are such that neither 11 nor 12 is given
   pub stays-ready : (l : List Call) → let s = play plan (lentBy (openOf plan counts values)) l in Ready plan (s .counts) (s .values)
   -- what C gets from `taskiter_play`, whose contract is `Played`, on the state that the opening and any calls since have left, with answers for

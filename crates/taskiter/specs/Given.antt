@@ -1,6 +1,6 @@
--- What C gets from `taskiter_items` and `taskiter_edges`, part of demand 2, and from
--- `taskiter_write`, part of demand 1, for every lent plan of 64-bit words and every lent slice: r is
--- the answer, and a prime marks the slice at exit.
+-- What C gets from `taskiter_items`, `taskiter_edges` and `taskiter_total`, part of demand 2, and
+-- from `taskiter_write`, part of demand 1, for every lent plan of 64-bit words and every lent
+-- slice: r is the answer, and a prime marks the slice at exit.
 use Prim.Native.Nat.{ℕ, _+_, _*_, _≤_, _<_}
 use mathlib.Core.Path.{_≡_}
 use mathlib.Core.Logic.{_↔_, _⊎_}
@@ -8,11 +8,11 @@ use mathlib.Core.List.{List}
 use lib.ListN.{length, getD, take}
 use Rattle.finite.specs.Lists.{tabulate}
 use Rattle.body.specs.Body.{Body}
-use Rattle.body.specs.Items.{Item, kindOf, itemRank, itemCount, itemAt}
+use Rattle.body.specs.Items.{Item, kindOf, itemRank, fewer, itemCount, itemAt, totalSteps}
 use Rattle.edges.specs.Rule.{Triple, AllEdges}
 use Rattle.plan.specs.Sizes.{maxItems, edgeWords, textBytes}
 use Rattle.plan.specs.Layout.{planWords}
-use Rattle.plan.specs.Code.{codeRank, codeKind, codeSubject}
+use Rattle.plan.specs.Code.{codeFewer, codeRank, codeKind, codeSubject}
 use Rattle.reading.specs.Plan.{Plan}
 use Rattle.reading.specs.Reading.{readOf, accepted as readTo}
 use Rattle.reading.specs.Written.{Rising}
@@ -40,12 +40,13 @@ pub record GraphGiven (n : ℕ) (plan slice : List ℕ) (r : Number) (slice′ :
   pub size : length slice′ ≡ length slice
   pub behind : (i : ℕ) → end ≤ i → getD slice′ i 0 ≡ getD slice i 0
 
--- a number of the table says an item of the paper: its rank (n / 512), its kind (n / 128 % 4), and
--- its task or region (n % 128)
+-- a number of the table says an item of the paper: its rank (n / 512 % 16), its kind (n / 128 % 4),
+-- its task or region (n % 128), and whether it is of a wrapped transfer (n / 8192)
 pub record SaysItem (B : Body) (x : Item) (n : ℕ) : Type 0 where
   pub rank : codeRank n ≡ itemRank B x
   pub kind : codeKind n ≡ kindOf x
   pub subject : codeSubject n ≡ subjectOf x
+  pub fewer-passes : codeFewer n ≡ fewer B x
 
 -- accepted, the number is that of the plan's items, and entry a of the table says item a
 pub record ItemsGiven (plan table : List ℕ) (r : Number) (table′ : List ℕ) : Type 0 where
@@ -66,6 +67,15 @@ pub record EdgesGiven (plan list : List ℕ) (r : Number) (list′ : List ℕ) :
 -- the plan is long enough, and what reading leaves for some text
 abbrev pub GoodPlan : List ℕ → Type 0
 GoodPlan plan = (planWords ≤ length plan) × FromText plan
+
+-- each refusal is given exactly when its condition holds, and then the number is 0. Accepted, it is
+-- the total of steps
+pub record TotalGiven (plan : List ℕ) (r : Number) : Type 0 where
+  pub refusal-11 : (r .refusal ≡ 11) ↔ (length plan < planWords)
+  pub refusal-12 : (r .refusal ≡ 12) ↔ ((planWords ≤ length plan) × (FromText plan → ⊥))
+  pub refusal-0 : (r .refusal ≡ 0) ↔ GoodPlan plan
+  pub refused : (r .refusal ≡ 0 → ⊥) → r .number ≡ 0
+  pub total : r .refusal ≡ 0 → r .number ≡ totalSteps (planBody plan)
 
 -- each refusal is given exactly when its condition holds and no earlier one does. Refused, the number
 -- is 0 and the slice is unchanged. The slice keeps its length, and its bytes behind the text stay

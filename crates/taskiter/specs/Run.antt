@@ -1,10 +1,10 @@
 -- What running a plan to its end answers and leaves (paper 01, "The run program").
-use Prim.Native.Nat.{ℕ, _*_, _<_}
+use Prim.Native.Nat.{ℕ, _<_}
 use mathlib.Core.Path.{_≡_}
 use mathlib.Core.List.{List}
 use lib.ListN.{length}
 use Rattle.body.specs.Loop.{loopFinal}
-use Rattle.body.specs.Items.{itemCount}
+use Rattle.body.specs.Items.{totalSteps}
 use Rattle.graph.specs.declared.Number.{Number}
 use Rattle.graph.specs.Answers.{planBody}
 use Rattle.steps.specs.State.{stateOf}
@@ -21,9 +21,9 @@ pub record Run (plan : List ℕ) (s t : Lent) (steps : ℕ) : Type 0 where
   pub all-accepted : accepted plan isStep s calls ≡ length calls
   pub reached : t ≡ play plan s calls
   pub counted : steps ≡ length calls
-  -- then the loop is complete, after two steps for each pass of each item
+  -- then the loop is complete, after two steps for each pass that each item has
   pub complete : Complete (planBody plan) (stateOf (t .counts) (t .values))
-  pub total : steps ≡ 2 * (planBody plan .passes * itemCount (planBody plan))
+  pub total : steps ≡ totalSteps (planBody plan)
   -- no other list of steps is taken in that order and leads to a complete loop
   pub only : (k : List Call) → Taken plan s k → Complete (planBody plan) (stateOf (play plan s k .counts) (play plan s k .values)) → k ≡ calls
   -- every region's result is accepted, and is its final number in the unrolled loop

@@ -4,7 +4,7 @@
 ghost use mathlib.Core.Path.{_≡_};
 ghost use mathlib.Core.Bool.{cond};
 ghost use Rattle.reader.specs.Answer.{Reads};
-ghost use Rattle.graph.specs.Answers.{ItemsAnswer, EdgesAnswer};
+ghost use Rattle.graph.specs.Answers.{ItemsAnswer, EdgesAnswer, TotalAnswer};
 ghost use Rattle.steps.specs.Answers.{openOf, startOf, finishOf, resultOf};
 ghost use Rattle.steps.specs.Calls.{start, finish, lent, call};
 ghost use Rattle.writer.specs.Answer.{WriteAnswer};
@@ -21,6 +21,7 @@ use calls::no_word;
 use calls::openings::open_clear;
 use calls::results::result_clear;
 use calls::starts::start_clear;
+use calls::totals::total_steps;
 use graph::Number;
 use graph::no_number;
 use plan::layout::PLAN_WORDS;
@@ -42,8 +43,8 @@ pub extern "C" fn taskiter_read(text: &[u8], plan: &mut [u64]) -> reader::Answer
     reader::read(text, plan)
 }
 
-// The items of a plan: a number for each in the lent table, rank × 512 + kind × 128 + task or
-// region, and how many they are.
+// The items of a plan: a number for each in the lent table, and how many they are. The number is
+// rank × 512 + kind × 128 + task or region, and 8192 more for an item of a wrapped transfer.
 #[no_mangle]
 pub extern "C" fn taskiter_items(plan: &[u64], table: &mut [u16]) -> Number
     ensures { λ r. ⌜ ItemsAnswer (now (plan .entry)) (now (table .entry)) r (now (table .exit)) ⌝ }
@@ -74,6 +75,22 @@ pub extern "C" fn taskiter_edges(plan: &[u64], list: &mut [u32]) -> Number
     }
 }
 
+// The number of steps from an opening to the end.
+#[no_mangle]
+pub extern "C" fn taskiter_total(plan: &[u64]) -> Number
+    ensures { λ r. ⌜ TotalAnswer (now (plan .entry)) r ⌝ }
+{
+    let mut table = [0u16; MAX_ITEMS];
+    let entry = enter_plan(plan, true, &mut table);
+    if entry.refusal != 0 {
+        return no_number(entry.refusal);
+    }
+    Number {
+        refusal: 0,
+        number: total_steps(&plan[..PLAN_WORDS], &table, entry.items),
+    }
+}
+
 // Writes a lent plan into a lent text; the number is the text's length.
 #[no_mangle]
 pub extern "C" fn taskiter_write(plan: &[u64], text: &mut [u8]) -> Number
@@ -85,9 +102,9 @@ pub extern "C" fn taskiter_write(plan: &[u64], text: &mut [u8]) -> Number
 // The version of this interface: TASKITER_VERSION of the header.
 #[no_mangle]
 pub extern "C" fn taskiter_version() -> u64
-    ensures { λ r. ⌜ r ≡ 1 ⌝ }
+    ensures { λ r. ⌜ r ≡ 2 ⌝ }
 {
-    1
+    2
 }
 
 // Opens a lent state for a plan; answers the refusal, 0 if there is none.

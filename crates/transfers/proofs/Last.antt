@@ -1,29 +1,31 @@
--- What `last` holds: after the writes of the tasks before t, going on from those of the whole body,
--- the source of each region. -none, -more and -done are a loop's: before its first turn, over a
+-- What `last` holds after the writes of the tasks before t: the last of them that wrote each region
+-- of the plan, or that none did. -none, -more and -done are a loop's: before its first turn, over a
 -- turn, and after its last.
 use Prim.Native.Nat.{ℕ, zero, suc, _+_, _*_, _≤_, _<_}
-use mathlib.Core.Path.{_≡_, refl, sym, _∙_, subst}
+use mathlib.Core.Path.{_≡_, refl, sym, _∙_, ap, subst}
 use mathlib.Core.Bool.{Bool, true, false, cond, _&&_, and-eq-true-iff}
 use mathlib.Core.Logic.{⊎-elim}
 use mathlib.Core.List.{List, []}
-use mathlib.Core.Option.{Option, none, some, orElse}
-use native.Mathlib.Decide.{ℕ-discrete}
+use mathlib.Core.Option.{Option, none, some}
+use native.Mathlib.Decide.{decLt, ℕ-discrete}
 use native.Mathlib.Numerals.{add-one}
 use native.Mathlib.Omega.{arith}
-use borrow.Author.Tests.{eqb-true, eq-eqb}
-use lib.Dec.{eqb}
-use lib.ListN.{length, getD, set, replicate, length-replicate, getD-replicate}
+use borrow.Author.Tests.{eqb-true, eqb-false, eq-eqb, lt-ltb, le-ltb}
+use lib.Dec.{eqb, ltb}
+use lib.ListN.{length, getD, set, replicate, length-set, length-replicate, getD-replicate, List·getD-eq-default}
 use lib.Seq.{getD-set-same, getD-set-other}
 use Rattle.finite.specs.Lists.{mem}
-use Rattle.finite.proofs.Tests.{true-or-false, not-both}
+use Rattle.finite.proofs.Tests.{true-or-false, not-both, ltb-next}
 use Rattle.finite.proofs.Below.{any-at, any-from}
 use Rattle.finite.proofs.Members.{mem-gather}
-use Rattle.finite.proofs.Update.{length-set-if, set-ind}
-use Rattle.body.specs.Transfers.{lastBefore, source}
+use Rattle.finite.proofs.Update.{length-set-if, set-ind, set-at}
+use Rattle.finite.proofs.Replaced.{list-ext}
+use Rattle.finite.proofs.Lists.{length-tabulate, getD-tabulate}
+use Rattle.body.specs.Transfers.{lastBefore}
 use Rattle.body.proofs.Writers.{last-wrote, last-kept}
 use Rattle.plan.specs.Limits.{maxRegions, maxAccesses}
-use Rattle.plan.specs.Layout.{tasksOf, rankOf, accessesOf, regionAt, isWritten, writesOf, bodyOf}
-use Rattle.transfers.specs.Search.{rowOf, writesIn, regionIn, Laid, Ready, accessBase, baseOf, Apart, Sources, noted, notedTask, notedTasks}
+use Rattle.plan.specs.Layout.{regionsOf, tasksOf, rankOf, accessesOf, regionAt, isWritten, writesOf, bodyOf}
+use Rattle.transfers.specs.Search.{rowOf, writesIn, regionIn, Laid, Ready, accessBase, baseOf, Apart, unwritten, noWriters, sourceEnd, Sources, noted, notedTask, notedTasks}
 use Rattle.plan.proofs.Facts.{Formed, formed}
 use Rattle.transfers.proofs.Rows.{row-writes, row-region}
 
@@ -86,23 +88,10 @@ noted-wrote row base (suc k) last a l e m f =
     there true z h = getD-set-other (noted row base k last) (regionIn row k) (regionIn row a) (base + 65536 * k) 0 (λ y. z (f k (omega arith) (sym y))) ∙ h
     there false z h = h
 
--- words 0 behind the first n accesses write nothing
-noted-rest : (row : List ℕ) (base n m : ℕ) (last : List ℕ) → n ≤ m → ((a : ℕ) → n ≤ a → a < m → getD row a 0 ≡ 0) → noted row base m last ≡ noted row base n last
-unfolding noted
-noted-rest row base n zero last l h = let e : n ≡ 0 = omega arith in rw e
-noted-rest row base n (suc m) last l h =
-    elim (ℕ-discrete n (suc m)) [
-      | yes e ↦ rw e
-      | no e ↦ rw (h m (omega arith) (omega arith)) (noted-rest row base n m last (omega arith) (λ a u v. h a u (omega arith)))
-    ]
-
 -- what a task notes, of numbers that are known otherwise
-module _ (w : List ℕ) (table : List (List ℕ)) (t rank base : ℕ) (last xs : List ℕ) (r : Ready w table t) (q : rank ≡ rankOf w t) (b : base ≡ accessBase t rank) where
-  pub noted-task : (n : ℕ) → n ≡ accessesOf w t → xs ≡ noted (getD table t []) base n last → xs ≡ notedTask w t last
-  noted-task n e f = f ∙ rw (b, q, e, r .row)
-
-  pub noted-row : xs ≡ noted (getD table t []) base maxAccesses last → xs ≡ notedTask w t last
-  noted-row f = noted-task (accessesOf w t) refl (f ∙ noted-rest (getD table t []) base (accessesOf w t) maxAccesses last (r .accesses-most) (r .rest))
+pub noted-task : (w : List ℕ) (table : List (List ℕ)) (t rank base n : ℕ) (last xs : List ℕ) → Ready w table t → rank ≡ rankOf w t → base ≡ accessBase t rank
+    → n ≡ accessesOf w t → xs ≡ noted (getD table t []) base n last → xs ≡ notedTask w t last
+noted-task w table t rank base n last xs r q b e f = f ∙ rw (b, q, e, r .row)
 
 -- the region of the next access, where no two accesses have one region
 pub noted-own : (row : List ℕ) (base n a : ℕ) (last xs : List ℕ) → Apart row n → a < n → xs ≡ noted row base a last → getD xs (regionIn row a) 0 ≡ getD last (regionIn row a) 0
@@ -123,18 +112,58 @@ notedTasks-more w t last xs ys h e = rw (add-one, e, h)
 pub notedTasks-done : (w : List ℕ) (n t : ℕ) (last xs : List ℕ) → xs ≡ notedTasks w t last → n ≤ t → t ≤ n → xs ≡ notedTasks w n last
 notedTasks-done w n t last xs h p q = let e : n ≡ t = omega arith in rw e h
 
-orElse-none : (o : Option ℕ) → orElse o none ≡ o
-unfolding orElse
-orElse-none none = refl
-orElse-none (some i) = refl
+-- noWriters
 
-pub sources-none : Sources (replicate maxRegions 0)
-sources-none = record { size = length-replicate {A = ℕ} maxRegions 0; each = none-at maxRegions }
+pub sources-none : (n : ℕ) → Sources (noWriters n)
+sources-none n = record { size = length-tabulate (λ g. cond (ltb g n) (unwritten g) 0) maxRegions; each = below }
   where
-    none-at : (n g : ℕ) → getD {A = ℕ} (replicate n 0) g 0 < 67108864
-    none-at zero g = omega arith
-    none-at (suc n) zero = omega arith
-    none-at (suc n) (suc g) = none-at n g
+    one : (b : Bool) (g : ℕ) → g < maxRegions → cond b (unwritten g) 0 < sourceEnd
+    one true g l = omega arith
+    one false g l = omega arith
+
+    below : (g : ℕ) → getD (noWriters n) g 0 < sourceEnd
+    below g =
+        elim (decLt g maxRegions) [
+          | yes l ↦ rw (getD-tabulate (λ g. cond (ltb g n) (unwritten g) 0) maxRegions g 0 l) (one (ltb g n) g l)
+          | no l ↦ (let e : getD (noWriters n) g 0 ≡ 0 = List·getD-eq-default (noWriters n) 0 (omega (arith, length-tabulate (λ g. cond (ltb g n) (unwritten g) 0) maxRegions)) in omega arith)
+        ]
+
+pub sources-named : (n : ℕ) (xs : List ℕ) → xs ≡ noWriters n → Sources xs
+sources-named n xs e = rw e (sources-none n)
+
+none-at : (n g : ℕ) → g < n → n ≤ maxRegions → getD (noWriters n) g 0 ≡ unwritten g
+none-at n g l m = getD-tabulate (λ g. cond (ltb g n) (unwritten g) 0) maxRegions g 0 (omega arith) ∙ rw (lt-ltb g n l)
+
+pub noWriters-none : (xs : List ℕ) → xs ≡ replicate maxRegions 0 → xs ≡ noWriters 0
+noWriters-none xs e =
+    list-ext xs (noWriters 0) (ap length e ∙ (length-replicate {A = ℕ} maxRegions 0 ∙ sym (sources-none 0 .size)))
+    (λ g l. let b : g < maxRegions = omega (arith, ap length e, length-replicate {A = ℕ} maxRegions 0) in
+    ap (λ (ys : List ℕ). getD ys g 0) e
+    ∙ (getD-replicate {A = ℕ} maxRegions g 0 0 b ∙ sym (getD-tabulate (λ g. cond (ltb g 0) (unwritten g) 0) maxRegions g 0 b ∙ rw (le-ltb g 0 (omega arith)))))
+
+pub noWriters-more : (xs : List ℕ) (n g : ℕ) → xs ≡ noWriters g → g < n → n ≤ maxRegions → set xs g (unwritten g) ≡ noWriters (g + 1)
+noWriters-more xs n g e l most =
+    list-ext (set xs g (unwritten g)) (noWriters (g + 1)) (size ∙ sym (sources-none (g + 1) .size)) (λ k m. at k (omega (arith, size)))
+  where
+    long : length xs ≡ maxRegions
+    long = ap length e ∙ sources-none g .size
+
+    size : length (set xs g (unwritten g)) ≡ maxRegions
+    size = length-set xs g (unwritten g) ∙ long
+
+    one : (k : ℕ) (b : Bool) → eqb k g ≡ b → cond b (unwritten g) (cond (ltb k g) (unwritten k) 0) ≡ cond (ltb k (g + 1)) (unwritten k) 0
+    one k true z = let y : k ≡ g = eqb-true k g z in rw (y, lt-ltb g (g + 1) (omega arith))
+    one k false z = ap (λ (b : Bool). cond b (unwritten k) 0) (sym (ltb-next k g (eqb-false k g z)))
+
+    at : (k : ℕ) → k < maxRegions → getD (set xs g (unwritten g)) k 0 ≡ getD (noWriters (g + 1)) k 0
+    at k m =
+        set-at xs g k (unwritten g) 0 (omega (arith, long))
+        ∙ (ap (λ (ys : List ℕ). cond (eqb k g) (unwritten g) (getD ys k 0)) e
+        ∙ (ap (λ (x : ℕ). cond (eqb k g) (unwritten g) x) (getD-tabulate (λ k. cond (ltb k g) (unwritten k) 0) maxRegions k 0 m)
+        ∙ (one k (eqb k g) refl ∙ sym (getD-tabulate (λ k. cond (ltb k (g + 1)) (unwritten k) 0) maxRegions k 0 m))))
+
+pub noWriters-done : (n g : ℕ) (xs : List ℕ) → xs ≡ noWriters g → n ≤ g → g ≤ n → xs ≡ noWriters n
+noWriters-done n g xs h p q = let e : n ≡ g = omega arith in rw e h
 
 module _ (w : List ℕ) where
   -- s names the access of task i that writes region g
@@ -146,14 +175,14 @@ module _ (w : List ℕ) where
     pub region : regionAt w i access ≡ g
     pub same : s ≡ baseOf w i + 65536 * access
 
-  -- s names the writer of region g, where there is one
+  -- s names the writer of region g, or that it has none
   abbrev pub Names : ℕ → Option ℕ → ℕ → Type 0
-  Names g none s = s ≡ 0
+  Names g none s = s ≡ unwritten g
   Names g (some i) s = Writer g i s
 
-  -- the writers of the whole body, going on from none
-  abbrev pub headLast : List ℕ
-  headLast = notedTasks w (tasksOf w) (replicate maxRegions 0)
+  -- the writers that the tasks before t leave
+  abbrev pub lastAt : ℕ → List ℕ
+  lastAt t = notedTasks w t (noWriters (regionsOf w))
 
 module _ (w : List ℕ) (F : Formed w) where
   length-notedTasks : (t : ℕ) (last : List ℕ) → length (notedTasks w t last) ≡ length last
@@ -161,11 +190,11 @@ module _ (w : List ℕ) (F : Formed w) where
   length-notedTasks zero last = refl
   length-notedTasks (suc t) last = length-noted (rowOf w t) (baseOf w t) (accessesOf w t) (notedTasks w t last) ∙ length-notedTasks t last
 
-  notedTasks-below : (t : ℕ) (last : List ℕ) → t ≤ tasksOf w → ((g : ℕ) → getD last g 0 < 67108864) → (g : ℕ) → getD (notedTasks w t last) g 0 < 67108864
+  notedTasks-below : (t : ℕ) (last : List ℕ) → t ≤ tasksOf w → ((g : ℕ) → getD last g 0 < sourceEnd) → (g : ℕ) → getD (notedTasks w t last) g 0 < sourceEnd
   unfolding notedTasks
   notedTasks-below zero last l f g = f g
   notedTasks-below (suc t) last l f g =
-      noted-below (rowOf w t) (baseOf w t) (accessesOf w t) 67108864 (notedTasks w t last)
+      noted-below (rowOf w t) (baseOf w t) (accessesOf w t) sourceEnd (notedTasks w t last)
       (λ a m. omega (arith, F .tasks-most, F .used t l .rank-most, F .used t l .accesses-most)) (notedTasks-below t last (omega arith) f) g
 
   pub sources-after : (t : ℕ) (last : List ℕ) → t ≤ tasksOf w → Sources last → Sources (notedTasks w t last)
@@ -212,24 +241,14 @@ module _ (w : List ℕ) (F : Formed w) where
       ∙ any-at (λ a. isWritten w t a && eqb g (regionAt w t a)) (accessesOf w t) a k
       (and-eq-true-iff (isWritten w t a) (eqb g (regionAt w t a)) .1 (sym (row-writes w t a j) ∙ e, eq-eqb g (regionAt w t a) (sym z ∙ row-region w t a j)))) h)
 
-  -- going on from numbers that name o
-  named-after : (g : ℕ) (o : Option ℕ) (last : List ℕ) → g < length last → Names w g o (getD last g 0) → (t : ℕ) → t ≤ tasksOf w
-      → Names w g (orElse (lastBefore (bodyOf w) t g) o) (getD (notedTasks w t last) g 0)
-  unfolding notedTasks lastBefore orElse
-  named-after g o last m h zero l = h
-  named-after g o last m h (suc t) l =
+  pub last-named : (g : ℕ) → g < regionsOf w → (t : ℕ) → t ≤ tasksOf w → Names w g (lastBefore (bodyOf w) t g) (getD (lastAt w t) g 0)
+  unfolding notedTasks lastBefore
+  last-named g m zero l = none-at (regionsOf w) g m (F .regions-most)
+  last-named g m (suc t) l =
       ⊎-elim
-      (λ e. rw (last-wrote (bodyOf w) t g e) (task-wrote t g (notedTasks w t last) l (omega (arith, length-notedTasks t last)) e))
-      (λ e. rw (last-kept (bodyOf w) t g e, task-kept t g (notedTasks w t last) l e) (named-after g o last m h t (omega arith)))
+      (λ e. rw (last-wrote (bodyOf w) t g e) (task-wrote t g (lastAt w t) l (omega (arith, sources-after t (noWriters (regionsOf w)) (omega arith) (sources-none (regionsOf w)) .size, F .regions-most)) e))
+      (λ e. rw (last-kept (bodyOf w) t g e, task-kept t g (lastAt w t) l e) (last-named g m t (omega arith)))
       (true-or-false (mem g (writesOf w t)))
-
-  pub source-named : (t g : ℕ) → t ≤ tasksOf w → g < maxRegions → Names w g (source (bodyOf w) t g) (getD (notedTasks w t (headLast w)) g 0)
-  unfolding source
-  source-named t g l m =
-      let head : Names w g (lastBefore (bodyOf w) (tasksOf w) g) (getD (headLast w) g 0) =
-      subst (λ (o : Option ℕ). Names w g o (getD (headLast w) g 0)) (orElse-none (lastBefore (bodyOf w) (tasksOf w) g))
-      (named-after g none (replicate maxRegions 0) (omega (arith, length-replicate {A = ℕ} maxRegions 0)) (getD-replicate {A = ℕ} maxRegions g 0 0 m) (tasksOf w) (omega arith)) in
-      named-after g (lastBefore (bodyOf w) (tasksOf w) g) (headLast w) (omega (arith, length-notedTasks (tasksOf w) (replicate maxRegions 0), length-replicate {A = ℕ} maxRegions 0)) head t l
 
 -- in a loop over the first n tasks
 pub sources-noted : (w : List ℕ) (table : List (List ℕ)) (last xs : List ℕ) (n t : ℕ) → Laid w table → n ≤ tasksOf w → t ≤ n → Sources last → xs ≡ notedTasks w t last → Sources xs

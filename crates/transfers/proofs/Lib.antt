@@ -3,7 +3,9 @@ pub mod Rows
 pub mod Last
 pub mod FlagsOf
 pub mod Marks
+pub mod Foreign
 pub mod Flags
 pub mod Tally
 pub mod Masks
+pub mod Closing
 pub mod Found

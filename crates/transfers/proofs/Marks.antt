@@ -8,7 +8,7 @@ use native.Mathlib.Numerals.{add-one}
 use native.Mathlib.Omega.{arith}
 use lib.ListN.{getD, set}
 use Rattle.plan.specs.Layout.{rankOf, accessesOf}
-use Rattle.transfers.specs.Search.{readsIn, regionIn, Apart, Ready, Sources, noted, notedTasks, claims, claimed, marked, markedTask, markedTasks}
+use Rattle.transfers.specs.Search.{readsIn, regionIn, Apart, Ready, sourceEnd, Sources, noted, notedTasks, claims, claimed, marked, markedTask, markedTasks}
 use Rattle.transfers.proofs.Last.{noted-own}
 
 -- claimed
@@ -34,7 +34,7 @@ marked-done row last q n a flags xs h p r = let e : n ≡ a = omega arith in rw 
 -- a turn reads the writer of the region g of access a from xs, where the writes of the accesses
 -- before are noted
 module _ (row last xs : List ℕ) (base n a g : ℕ) (h : Apart row n) (l : a < n) (e : xs ≡ noted row base a last) (k : g ≡ regionIn row a) where
-  pub source-below : Sources last → getD xs g 0 < 67108864
+  pub source-below : Sources last → getD xs g 0 < sourceEnd
   source-below s = rw (k, noted-own row base n a last xs h l e) (s .each (regionIn row a))
 
   pub marked-more : (q : ℕ) (flags fs ys : List ℕ) → fs ≡ marked row last q a flags → ys ≡ claimed (readsIn row a) (getD xs g 0) q fs

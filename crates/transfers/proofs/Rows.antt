@@ -82,7 +82,6 @@ ready w table n t h l m =
       accesses-most = u .accesses-most;
       row = row;
       apart = λ a b k m e. u .apart a b k m (sym (region a k) ∙ (e ∙ region b m));
-      rest = λ a k m. ap (λ (r : List ℕ). getD r a 0) row ∙ (row-at w t a m ∙ u .rest-zero a k m);
     }
 
 -- of a number that is known otherwise

@@ -1,36 +1,55 @@
--- The number of flags is the number of transfers.
-use Prim.Native.Nat.{ℕ, _+_, _*_, _<_}
+-- How many flags are set: at the end as many as there are transfers.
+use Prim.Native.Nat.{ℕ, _+_, _*_, _/_, _%_, _<_}
 use mathlib.Core.Path.{_≡_, refl, sym, _∙_, ap}
-use mathlib.Core.Bool.{Bool, true, false, cond, not}
+use mathlib.Core.Bool.{Bool, true, false, cond}
 use mathlib.Core.List.{List}
 use native.Mathlib.Omega.{arith}
 use borrow.Author.Tests.{lt-ltb, le-ltb}
-use lib.Dec.{eqb}
-use lib.ListN.{length, getD}
+use lib.ListN.{length}
 use Rattle.finite.specs.Below.{countBelow, sumBelow}
 use Rattle.finite.specs.Lists.{gather}
-use Rattle.finite.proofs.Below.{sum-ext, sum-const, sum-beyond, count-ext, count-beyond, count-never, count-split}
-use Rattle.finite.proofs.Lists.{getD-tabulate, length-gather, length-flatMap-range, length-flatMap-gather}
+use Rattle.finite.proofs.Below.{sum-ext, sum-const, sum-more-at, sum-beyond, count-ext, count-beyond, count-never, count-split}
+use Rattle.finite.proofs.Lists.{length-gather, length-flatMap-range, length-flatMap-gather}
 use Rattle.body.specs.Transfers.{transfer, transferred, transfersOf, transferCount}
 use Rattle.plan.specs.Layout.{ranksOf, tasksOf, accessesOf, regionAt, isWritten, bodyOf}
 use Rattle.transfers.specs.Wanted.{wantedAt}
-use Rattle.transfers.specs.Search.{perFlag, wantedFlags, ones, planFlags}
+use Rattle.transfers.specs.Search.{perFlag, accessFlags}
 use Rattle.plan.proofs.Facts.{Formed}
-use Rattle.transfers.proofs.Flags.{perFlag-at}
 
-flag-holds : (b : Bool) → not (eqb (cond b 1 0) 0) ≡ b
-flag-holds true = refl
-flag-holds false = refl
+perFlag-at : (p : ℕ → ℕ → ℕ → Bool) (k i a q : ℕ) → a < 8 → q < 16 → k ≡ 128 * i + 16 * a + q → perFlag p k ≡ p i a q
+perFlag-at p k i a q l m e =
+    let u : k / 128 ≡ i = omega arith in
+    let v : k / 16 % 8 ≡ a = omega arith in
+    let z : k % 16 ≡ q = omega arith in
+    rw (u, v, z)
+
+-- the ranks of one access are more by d
+pub count-more-at : (p r : ℕ → ℕ → ℕ → Bool) (i a d : ℕ) → i < 128 → a < 8 → countBelow 16 (r i a) ≡ countBelow 16 (p i a) + d
+    → ((j b q : ℕ) → q < 16 → (j ≡ i → b ≡ a → ⊥) → r j b q ≡ p j b q)
+    → countBelow accessFlags (perFlag r) ≡ countBelow accessFlags (perFlag p) + d
+count-more-at p r i a d li la e h =
+    by-access r
+    ∙ (sum-more-at 1024 (λ k. countBelow 16 (p (k / 8) (k % 8))) (λ k. countBelow 16 (r (k / 8) (k % 8))) (8 * i + a) d (omega arith) own (λ k n l. other k l n)
+    ∙ ap (λ (x : ℕ). x + d) (sym (by-access p)))
+  where
+    by-access : (p : ℕ → ℕ → ℕ → Bool) → countBelow accessFlags (perFlag p) ≡ sumBelow 1024 (λ k. countBelow 16 (p (k / 8) (k % 8)))
+    by-access p =
+        count-split 1024 16 (perFlag p)
+        ∙ sum-ext 1024 (λ k. countBelow 16 (λ q. perFlag p (k * 16 + q))) (λ k. countBelow 16 (p (k / 8) (k % 8)))
+        (λ k l. count-ext 16 (λ q. perFlag p (k * 16 + q)) (p (k / 8) (k % 8)) (λ q m. perFlag-at p (k * 16 + q) (k / 8) (k % 8) q (omega arith) m (omega arith)))
+
+    own : countBelow 16 (r ((8 * i + a) / 8) ((8 * i + a) % 8)) ≡ countBelow 16 (p ((8 * i + a) / 8) ((8 * i + a) % 8)) + d
+    own =
+        let u : (8 * i + a) / 8 ≡ i = omega arith in
+        let v : (8 * i + a) % 8 ≡ a = omega arith in
+        rw (u, v) e
+
+    other : (k : ℕ) → k < 1024 → (k ≡ 8 * i + a → ⊥) → countBelow 16 (r (k / 8) (k % 8)) ≡ countBelow 16 (p (k / 8) (k % 8))
+    other k l n = count-ext 16 (r (k / 8) (k % 8)) (p (k / 8) (k % 8)) (λ q m. h (k / 8) (k % 8) q m (λ x y. n (omega arith)))
 
 module _ (w : List ℕ) (F : Formed w) where
-  pub ones-flags : ones (wantedFlags w) ≡ countBelow planFlags (perFlag (wantedAt w))
-  unfolding ones
-  ones-flags =
-      count-ext planFlags (λ k. not (eqb (getD (wantedFlags w) k 0) 0)) (perFlag (wantedAt w))
-      (λ k l. ap (λ (x : ℕ). not (eqb x 0)) (getD-tabulate (λ k. cond (perFlag (wantedAt w) k) 1 0) planFlags k 0 l) ∙ flag-holds (perFlag (wantedAt w) k))
-
   -- by task, access and rank
-  count-by : countBelow planFlags (perFlag (wantedAt w)) ≡ sumBelow 128 (λ i. sumBelow 8 (λ a. countBelow 16 (wantedAt w i a)))
+  count-by : countBelow accessFlags (perFlag (wantedAt w)) ≡ sumBelow 128 (λ i. sumBelow 8 (λ a. countBelow 16 (wantedAt w i a)))
   count-by =
       count-split 128 128 (perFlag (wantedAt w))
       ∙ sum-ext 128 (λ i. countBelow 128 (λ j. perFlag (wantedAt w) (i * 128 + j))) (λ i. sumBelow 8 (λ a. countBelow 16 (wantedAt w i a)))
@@ -69,12 +88,11 @@ module _ (w : List ℕ) (F : Formed w) where
       (λ a. cond (isWritten w i a) (length (gather (ranksOf w) (transferred (bodyOf w) i (regionAt w i a)) (transfer i (regionAt w i a)))) 0) (λ a m. count-access i a l m)
       ∙ sym (length-flatMap-gather (λ g. gather (ranksOf w) (transferred (bodyOf w) i g) (transfer i g)) (accessesOf w i) (isWritten w i) (regionAt w i)))
 
-  pub count-found : ones (wantedFlags w) ≡ transferCount (bodyOf w)
+  pub count-found : countBelow accessFlags (perFlag (wantedAt w)) ≡ transferCount (bodyOf w)
   unfolding wantedAt transferCount
   count-found =
-      ones-flags
-      ∙ (count-by
+      count-by
       ∙ (sum-beyond 128 (tasksOf w) (λ i. sumBelow 8 (λ a. countBelow 16 (wantedAt w i a))) (F .tasks-most)
       (λ i m n. sum-ext 8 (λ a. countBelow 16 (wantedAt w i a)) (λ a. 0) (λ a u. count-never 16 (wantedAt w i a) (λ q v. rw (le-ltb i (tasksOf w) m))) ∙ sum-const 8 0)
       ∙ (sum-ext (tasksOf w) (λ i. sumBelow 8 (λ a. countBelow 16 (wantedAt w i a))) (λ i. length (transfersOf (bodyOf w) i)) count-task
-      ∙ sym (length-flatMap-range (transfersOf (bodyOf w)) (tasksOf w)))))
+      ∙ sym (length-flatMap-range (transfersOf (bodyOf w)) (tasksOf w))))

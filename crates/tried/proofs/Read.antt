@@ -12,7 +12,7 @@ use Rattle.reading.specs.Plan.{planOf, wordsOf}
 use Rattle.reading.specs.Reading.{readOf, accepted, refused}
 use Rattle.reading.specs.Written.{digits, textOf}
 use Rattle.text.specs.Ascii.{ascii}
-use Rattle.tried.specs.Table.{example, exampleWords, noPass, unordered, readers, readersWords}
+use Rattle.tried.specs.Table.{example, exampleWords, noPass, unordered, readers, readersWords, ahead, aheadWords}
 
 pub example-read : readOf example ≡ accepted (exampleWords 2)
 unfolding readOf wordsOf tabulate numberOf wellFormed keywordOf mem suits transferCount transfersOf transferred wanted source lastBefore orElse anyBelow gather range flatMap
@@ -29,6 +29,10 @@ readers-read = refl
 pub unordered-read : readOf unordered ≡ accepted (exampleWords 2)
 unfolding readOf wordsOf tabulate numberOf wellFormed keywordOf mem suits transferCount transfersOf transferred wanted source lastBefore orElse anyBelow gather range flatMap
 unordered-read = refl
+
+pub ahead-read : readOf ahead ≡ accepted aheadWords
+unfolding readOf wordsOf tabulate numberOf wellFormed keywordOf mem suits transferCount transfersOf transferred wanted source lastBefore orElse anyBelow gather range flatMap
+ahead-read = refl
 
 pub example-written : textOf (exampleWords 2) ≡ example
 unfolding textOf planOf tabulate digits

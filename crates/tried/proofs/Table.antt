@@ -3,6 +3,7 @@
 use Prim.Native.Nat.{ℕ, suc, _+_, _*_, _≤_, _<_}
 use mathlib.Core.Path.{_≡_, refl, sym, _∙_, ap, subst}
 use mathlib.Core.Bool.{Bool, cond}
+use mathlib.Core.Logic.{⊎-elim}
 use mathlib.Core.List.{List, [], _∷_}
 use native.Mathlib.Omega.{arith}
 use lib.ListN.{length, getD, set, take}
@@ -12,7 +13,7 @@ use Rattle.unroll.specs.Edges.{Edge}
 use Rattle.unroll.specs.Meaning.{StartRule}
 use Rattle.body.specs.Body.{Body}
 use Rattle.body.specs.TwoRanks.{tenEdges}
-use Rattle.body.specs.Items.{Item, task, writer, itemCount, itemAt}
+use Rattle.body.specs.Items.{Item, task, writer, itemCount, itemAt, itemPasses}
 use Rattle.body.specs.Places.{system}
 use Rattle.body.specs.Loop.{loopWord, loopFinal}
 use Rattle.edges.proofs.Decided.{edge-distance-is}
@@ -28,9 +29,9 @@ use Rattle.steps.specs.Calls.{Call, start, finish, result, isStep, Lent, lentBy
 use Rattle.taskiter.specs.Demands.{of-start, of-finish, Ready, Opened, OpenMade, Steps, AtEnd, InAnyOrder, Demands}
 use Rattle.taskiter.proofs.Demands.{demands}
 use Rattle.tried.specs.Table.{example, exampleWords, noPass, Fresh, Accepts, after, Table}
-use Rattle.tried.proofs.Read.{example-read, no-pass-read, readers-read, unordered-read, example-written, second-begin, named-twice}
-use Rattle.tried.proofs.Printed.{printed}
-use Rattle.tried.proofs.Drawn.{example-items, final-two, final-none, first-word}
+use Rattle.tried.proofs.Read.{example-read, no-pass-read, readers-read, unordered-read, ahead-read, example-written, second-begin, named-twice}
+use Rattle.tried.proofs.Printed.{printed, ahead-printed}
+use Rattle.tried.proofs.Drawn.{example-items, example-passes, example-total, ahead-passes, final-two, final-none, first-word}
 
 module _ (D : Demands) where
   -- what the demands say of a fresh state of the example with p passes
@@ -52,8 +53,8 @@ module _ (D : Demands) where
     items-four : itemCount (planBody plan) ≡ 4
     items-four = ap itemCount body-is ∙ ap length (example-items p)
 
-    passes-are : planBody plan .passes ≡ p
-    passes-are = ap (λ (B : Body). B .passes) body-is
+    own-passes : (a : ℕ) → a < 4 → itemPasses (planBody plan) a ≡ p
+    own-passes a l = ap (λ (B : Body). itemPasses B a) body-is ∙ example-passes p a l
 
     steps : (t : Lent) → Steps plan (t .counts) (t .values)
     steps t = D .demand-2 .steps plan (t .counts) (t .values) (F .words)
@@ -84,7 +85,7 @@ module _ (D : Demands) where
         (record { refusal = a; word = order l .final 0 a ∙ x }, record { refusal = b; word = order l .final 1 b ∙ y })
 
     all-steps : (l : List Call) → AtEnd (bodyOf (exampleWords p)) plan s l → accepted plan isStep s l ≡ 2 * (p * 4)
-    all-steps l e = order l .ends .0 e ∙ ap (λ (n : ℕ). 2 * (p * n)) (ap length (example-items p))
+    all-steps l e = order l .ends .0 e ∙ example-total p
 
   -- two passes
   module _ (plan : List ℕ) (s : Lent) (F : Fresh 2 plan s) where
@@ -106,8 +107,8 @@ module _ (D : Demands) where
     four : itemCount (planBody plan) ≡ 4
     four = items-four 2 example example-read plan s F
 
-    two : planBody plan .passes ≡ 2
-    two = passes-are 2 example example-read plan s F
+    two : (a : ℕ) → a < 4 → itemPasses (planBody plan) a ≡ 2
+    two = own-passes 2 example example-read plan s F
 
     started : (a : ℕ) → a < 4 → getD (s .counts) a 0 ≡ 0
     started = none-started 2 example example-read plan s F
@@ -125,15 +126,18 @@ module _ (D : Demands) where
           N .start-16 3 .1 (
             R,
             omega (arith, four),
-            omega (arith, two, finished 3 (omega arith)),
+            omega (arith, two 3 (omega arith), finished 3 (omega arith)),
             started 3 (omega arith) ∙ sym (finished 3 (omega arith)),
-            λ r. let z = r .same-pass 2 edge-2-3 in omega (arith, z, started 3 (omega arith), finished 2 (omega arith)),
+            λ r. ⊎-elim
+                (λ z. omega (arith, z, started 3 (omega arith), finished 2 (omega arith)))
+                (λ z. omega (arith, z, two 2 (omega arith), started 3 (omega arith)))
+                (r .same-pass 2 edge-2-3),
           ),
           N .finish-17 0 .1 (R, omega (arith, four), started 0 (omega arith) ∙ sym (finished 0 (omega arith))),
           N .result-18 0 .1 (
             R,
             subst (λ (B : Body). 0 < B .regions) (sym (body-is 2 example example-read plan s F)) (omega arith),
-            λ c. let z = c 0 (omega (arith, four)) in omega (arith, z, two, finished 0 (omega arith)),
+            λ c. let z = c 0 (omega (arith, four)) in omega (arith, z, two 0 (omega arith), finished 0 (omega arith)),
           ),
         )
 
@@ -141,7 +145,7 @@ module _ (D : Demands) where
     rule-0 =
         record {
           in-range = omega (arith, four);
-          left = omega (arith, two, finished 0 (omega arith));
+          left = omega (arith, two 0 (omega arith), finished 0 (omega arith));
           idle = started 0 (omega arith) ∙ sym (finished 0 (omega arith));
           same-pass = λ b e. absurd (no-edge b e);
           pass-before = λ b q e h. absurd (omega (arith, h, started 0 (omega arith)));
@@ -179,8 +183,10 @@ module _ (D : Demands) where
     ended l a below =
         let c = order 0 noPass no-pass-read plan s F l .counted a below .1 in
         let k : a < itemCount (planBody plan) = subst (λ (B : Body). a < itemCount B) (sym (body-is 0 noPass no-pass-read plan s F)) below in
-        let r : getD (play plan s l .counts) (firstFinished + a) 0 ≤ planBody plan .passes = ready 0 noPass no-pass-read plan s F l .counts-formed a k .finished in
-        sym c ∙ (let z : getD (play plan s l .counts) (firstFinished + a) 0 ≡ 0 = omega (arith, r, passes-are 0 noPass no-pass-read plan s F) in z)
+        let n : a < 4 = omega (arith, items-four 0 noPass no-pass-read plan s F) in
+        let r : getD (play plan s l .counts) (firstFinished + a) 0 ≤ itemPasses (planBody plan) a = ready 0 noPass no-pass-read plan s F l .counts-formed a k .finished in
+        let z : getD (play plan s l .counts) (firstFinished + a) 0 ≡ 0 = omega (arith, r, own-passes 0 noPass no-pass-read plan s F a n) in
+        sym c ∙ (z ∙ sym (example-passes 0 a n))
 
     case-c : (l : List Call) →
         Accepts (after plan s l (result 0)) 5 × Accepts (after plan s l (result 1)) 0 × (accepted plan isStep s l ≡ 0)
@@ -188,8 +194,9 @@ module _ (D : Demands) where
     case-c l =
         let four : 0 < itemCount (planBody plan) = omega (arith, items-four 0 noPass no-pass-read plan s F) in
         let e : 0 < itemCount (bodyOf (exampleWords 0)) = subst (λ (B : Body). 0 < itemCount B) (body-is 0 noPass no-pass-read plan s F) four in
-        let done : getD (play plan s l .counts) (firstFinished + 0) 0 ≡ planBody plan .passes =
-        order 0 noPass no-pass-read plan s F l .counted 0 e .1 ∙ (ended l 0 e ∙ sym (passes-are 0 noPass no-pass-read plan s F)) in
+        let done : getD (play plan s l .counts) (firstFinished + 0) 0 ≡ itemPasses (planBody plan) 0 =
+        order 0 noPass no-pass-read plan s F l .counted 0 e .1
+        ∙ (ended l 0 e ∙ sym (ap (λ (B : Body). itemPasses B 0) (body-is 0 noPass no-pass-read plan s F))) in
         let r = finals 0 noPass no-pass-read plan s F l (ended l) 5 0 (final-none .0) (final-none .1) in
         let none = steps 0 noPass no-pass-read plan s F (play plan s l) .numbers .start-14 0 .1 (ready 0 noPass no-pass-read plan s F l, four, done) in
         (r .0, r .1, all-steps 0 noPass no-pass-read plan s F l (ended l), none)
@@ -203,6 +210,9 @@ module _ (D : Demands) where
         readers-read = readers-read;
         unordered-read = unordered-read;
         written = example-written;
+        ahead-read = ahead-read;
+        ahead-passes = ahead-passes;
+        ahead-printed = ahead-printed;
         case-a = two-ranks-edges;
         case-b = case-b;
         reaches-b = reaches-b;

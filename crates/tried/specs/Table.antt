@@ -1,9 +1,11 @@
--- The starred cases (paper 01, "Tried by hand"), one field a case, and a case of card 1, over the definitions. Proved in proofs/Table.antt.
+-- The starred cases (paper 01, "Tried by hand"), one field a case, and a case each of cards 1 and
+-- 2, over the definitions. Proved in proofs/Table.antt.
 use Prim.Native.Nat.{ℕ, _+_, _-_, _*_, _^_, _≤_}
 use mathlib.Core.Path.{_≡_}
-use mathlib.Core.List.{List, [], _∷_, _++_}
+use mathlib.Core.List.{List, [], _∷_, _++_, map}
 use lib.ListN.{length, getD, replicate}
 use Rattle.kernels.specs.Kernels.{kernelWord}
+use Rattle.body.specs.Items.{itemPasses}
 use Rattle.body.specs.TwoRanks.{tenEdges}
 use Rattle.edges.specs.Rule.{AllEdges}
 use Rattle.plan.specs.Limits.{maxWord}
@@ -47,6 +49,18 @@ readersWords =
     ++ (0 ∷ 0 ∷ 0 ∷ 1 ∷ 0 ∷ (replicate 7 0
     ++ (0 ∷ 0 ∷ 0 ∷ 1 ∷ 0 ∷ replicate (7 + 12 * 126) 0))))
 
+-- a text whose task 0 reads, on rank 0, a region that task 1 writes on rank 1: the read stands
+-- ahead of its writer, so their transfer is wrapped
+abbrev pub ahead : List ℕ
+ahead =
+    ascii "loop\t2\t2\t2\nstart\t0\t5\nbegin\t0\t1\t0\nin\t0\ninout\t1\nend\nbegin\t1\t1\t1\ninout\t0\nend\n"
+
+abbrev pub aheadWords : List ℕ
+aheadWords =
+    2 ∷ 2 ∷ 2 ∷ 2 ∷ 5 ∷ (replicate 127 0
+    ++ (0 ∷ 1 ∷ 0 ∷ 2 ∷ 0 ∷ 257 ∷ (replicate 6 0
+    ++ (1 ∷ 1 ∷ 1 ∷ 1 ∷ 256 ∷ replicate (7 + 12 * 126) 0))))
+
 -- a plan of 64-bit words that holds the example with so many passes, and a state that an opening of it left, whatever was lent
 pub record Fresh (passes : ℕ) (plan : List ℕ) (s : Lent) : Type 0 where
   pub behind : List ℕ
@@ -89,6 +103,13 @@ pub record Table : Type 0 where
       ascii "item 0 task 0\nitem 1 send 0\nitem 2 receive 1\nitem 3 task 1\n"
       ++ (ascii "edge 0 0 1\nedge 0 1 0\nedge 1 0 1\nedge 1 1 1\nedge 1 2 0\nedge 2 1 1\nedge 2 2 1\nedge 2 3 0\n"
       ++ ascii "edge 3 2 1\nedge 3 3 1\nsteps 16\nvalue 0 7\nvalue 1 13\n")
+  -- card 2: the send and the receive, items 2 and 3, have one pass and the tasks two, so 12 steps
+  pub ahead-read : readOf ahead ≡ readTo aheadWords
+  pub ahead-passes : map (itemPasses (bodyOf aheadWords)) (0 ∷ 1 ∷ 2 ∷ 3 ∷ []) ≡ 2 ∷ 2 ∷ 1 ∷ 1 ∷ []
+  pub ahead-printed : linesOf ahead ≡
+      ascii "item 0 task 0\nitem 1 task 1\nitem 2 send 1\nitem 3 receive 0\n"
+      ++ (ascii "edge 0 0 1\nedge 0 3 0\nedge 1 1 1\nedge 1 2 0\nedge 2 1 1\nedge 2 2 1\nedge 2 3 0\nedge 3 0 1\n"
+      ++ ascii "edge 3 2 1\nedge 3 3 1\nsteps 12\nvalue 0 7\nvalue 1 11\n")
   -- D kernel 3 on four times 2^64 - 1, E on 1, 1, 1, 0
   pub case-d : (c : ℕ) → kernelWord 3 c ((2 ^ 64 - 1) ∷ (2 ^ 64 - 1) ∷ (2 ^ 64 - 1) ∷ (2 ^ 64 - 1) ∷ []) ≡ 2 ^ 64 - 1
   pub case-e : (c : ℕ) → kernelWord 3 c (1 ∷ 1 ∷ 1 ∷ 0 ∷ []) ≡ 0

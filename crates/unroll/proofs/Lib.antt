@@ -1,5 +1,6 @@
 pub mod Instances
 pub mod Sequential
+pub mod Fewer
 pub mod LastWriter
 pub mod Edges
 pub mod Decide

@@ -1,6 +1,6 @@
 -- The statements of specs/Meaning.antt and specs/AnyOrder.antt, proved.
 use Prim.Native.Nat.{ℕ, zero, suc, _+_, _<_}
-use mathlib.Core.Path.{_≡_}
+use mathlib.Core.Path.{_≡_, subst}
 use mathlib.Core.Logic.{inl, inr, _↔_}
 use mathlib.Core.List.{List}
 use mathlib.Core.Option.{some}
@@ -8,10 +8,9 @@ use native.Mathlib.Omega.{arith}
 use Rattle.unroll.specs.System.{System}
 use Rattle.unroll.specs.Edges.{Edge}
 use Rattle.unroll.specs.Machine.{State, Call, Met, CanStart, start, finish, answer, Decides}
-use Rattle.unroll.specs.Meaning.{EqualPasses, StartRule, Meaning}
+use Rattle.unroll.specs.Meaning.{WaitsMade, StartRule, Meaning}
 use Rattle.unroll.specs.AnyOrder.{WritersMade, reached, replyAfter, AnyOrder, Laws}
-use Rattle.unroll.proofs.Instances.{before-pass}
-use Rattle.unroll.proofs.Edges.{dependence-later, dependence-sooner, same-or-next, edge-from, edge-distance, edge-only-readers}
+use Rattle.unroll.proofs.Edges.{dependence-later, dependence-sooner, same-or-next, edge-distance, edge-only-readers}
 use Rattle.unroll.proofs.Decide.{decides}
 use Rattle.unroll.proofs.Local.{same-machine, local}
 use Rattle.unroll.proofs.Progress.{end-or-can}
@@ -43,32 +42,31 @@ module _ (S : System) (can : Decides S) (W : WritersMade S) where
         final = final S can W;
       }
 
-module _ (S : System) (E : EqualPasses S) where
-  pub equal-passes : WritersMade S
-  equal-passes p b q a x lb la u w h m = omega (arith, E a b la lb, before-pass p b q a u)
-
-  -- an instance that a start waits for is made
-  met-finished : (s : State) (a b p : ℕ) → a < S .items → b < S .items → p < S .passes a → Met S s b p → p < s .finished b
-  met-finished s a b p la lb l (inl h) = h
-  met-finished s a b p la lb l (inr h) = absurd (omega (arith, E a b la lb))
-
+module _ (S : System) where
   rule-start : (s : State) (a : ℕ) → CanStart S s a → StartRule S s a
   rule-start s a c =
       record {
         in-range = c .in-range;
         left = c .left;
         idle = c .idle;
-        same-pass = λ b e. met-finished s a b (s .started a) (c .in-range) (edge-from S b a 0 e) (omega (arith, c .idle, c .left)) (c .ready b 0 (s .started a) e (omega arith));
-        pass-before = λ b p e h. met-finished s a b p (c .in-range) (edge-from S b a 1 e) (omega (arith, c .idle, c .left)) (c .ready b 1 p e (omega arith));
+        same-pass = λ b e. c .ready b 0 (s .started a) e (omega arith);
+        pass-before = λ b p e h. c .ready b 1 p e (omega arith);
       }
 
   start-ready : (s : State) (a : ℕ) → StartRule S s a → (b d p : ℕ) → Edge S b a d → p + d ≡ s .started a → Met S s b p
-  start-ready s a r b zero p e h = inl (omega (arith, r .same-pass b e))
-  start-ready s a r b (suc zero) p e h = inl (r .pass-before b p e (omega arith))
+  start-ready s a r b zero p e h = let z : s .started a ≡ p = omega arith in subst (λ (k : ℕ). Met S s b k) z (r .same-pass b e)
+  start-ready s a r b (suc zero) p e h = r .pass-before b p e (omega arith)
   start-ready s a r b (suc (suc d)) p e h = absurd (omega (arith, edge-distance S b a (suc (suc d)) e))
 
   pub start-rule : (s : State) (a : ℕ) → CanStart S s a ↔ StartRule S s a
   start-rule s a = (rule-start s a, λ r. record { in-range = r .in-range; left = r .left; idle = r .idle; ready = start-ready s a r })
+
+  pub finished-rule : WaitsMade S → (s : State) (a b d p : ℕ) → StartRule S s a → Edge S b a d → p + d ≡ s .started a → p < s .finished b
+  finished-rule M s a b d p r e h = go (start-ready s a r b d p e h)
+    where
+      go : Met S s b p → p < s .finished b
+      go (inl m) = m
+      go (inr m) = absurd (omega (arith, M b a d p e (omega (arith, r .left, r .idle))))
 
 pub meaning : (S : System) → Meaning S
 meaning S =
@@ -78,6 +76,7 @@ meaning S =
       distance = edge-distance S;
       only-readers = edge-only-readers S;
       start-rule = start-rule S;
+      finished-rule = finished-rule S;
       decides = decides S;
       same-machine = same-machine S;
       start-changes = start-changes S;
@@ -87,4 +86,4 @@ meaning S =
     }
 
 pub laws : Laws
-laws = record { meaning = meaning; any-order = any-order; equal-passes = equal-passes }
+laws = record { meaning = meaning; any-order = any-order }

@@ -9,7 +9,7 @@ use Rattle.finite.specs.Below.{sumBelow}
 use Rattle.unroll.specs.Instances.{Before}
 use Rattle.unroll.specs.System.{System, Writes, Accesses}
 use Rattle.unroll.specs.Sequential.{storeAt, word}
-use Rattle.unroll.specs.Meaning.{EqualPasses, Meaning}
+use Rattle.unroll.specs.Meaning.{Meaning}
 use Rattle.unroll.specs.Machine.{State, Call, start, finish, item, alike, anyCall, opening, Decides, reply, run, replies, accepted}
 
 module _ (S : System) where
@@ -73,5 +73,3 @@ module _ (S : System) (can : Decides S) where
 pub record Laws : Type 0 where
   pub meaning : (S : System) → Meaning S
   pub any-order : (S : System) (can : Decides S) → WritersMade S → AnyOrder S can
-  -- the assumption holds where all items have the same passes
-  pub equal-passes : (S : System) → EqualPasses S → WritersMade S

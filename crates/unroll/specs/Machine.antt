@@ -42,8 +42,7 @@ module _ (S : System) where
   unfoldable pub opening : State
   opening = record { started = λ a. 0; finished = λ a. 0; places = S .initial; held = λ a. 0 }
 
-  -- the wait for item b in pass p is met: the instance has finished, or it is not made. Where all items have the same passes, the
-  -- second never decides (Meaning.antt, StartRule)
+  -- the wait for item b in pass p is met: the instance has finished, or it is not made (02, card 2)
   abbrev pub Met : State → ℕ → ℕ → Type 0
   Met s b p = (p < s .finished b) ⊎ (S .passes b ≤ p)
 

@@ -7,21 +7,23 @@ use Rattle.finite.specs.Update.{update}
 use Rattle.unroll.specs.System.{System, Writes, Accesses}
 use Rattle.unroll.specs.Sequential.{wordOn}
 use Rattle.unroll.specs.Edges.{Dependence, Edge}
-use Rattle.unroll.specs.Machine.{State, Call, start, finish, CanStart, Decides, reply, step}
+use Rattle.unroll.specs.Machine.{State, Call, start, finish, Met, CanStart, Decides, reply, step}
 
 module _ (S : System) where
-  -- all items have the same passes, as the paper's have
-  abbrev pub EqualPasses : Type 0
-  EqualPasses = (a b : ℕ) → a < S .items → b < S .items → S .passes a ≡ S .passes b
+  -- every instance that a made instance waits for is made
+  abbrev pub WaitsMade : Type 0
+  WaitsMade = (b a d p : ℕ) → Edge S b a d → p + d < S .passes a → p < S .passes b
 
-  -- the paper's words for a start of item a in its next pass: the item has a pass left and does not run, every edge into a at distance 0
-  -- has its source finished in that pass, and every one at distance 1 in the pass before, if there is one
+  -- the papers' words for a start of item a in its next pass (01, "Steps"; 02, card 2): of its own
+  -- passes the item has one left, and it does not run; every edge into a at distance 0 has its
+  -- source finished in that pass, and every one at distance 1 in the pass before, if there is one.
+  -- A wait for an instance that is not made counts as met (Met)
   pub record StartRule (s : State) (a : ℕ) : Type 0 where
     pub in-range : a < S .items
     pub left : s .finished a < S .passes a
     pub idle : s .started a ≡ s .finished a
-    pub same-pass : (b : ℕ) → Edge S b a 0 → s .started a < s .finished b
-    pub pass-before : (b p : ℕ) → Edge S b a 1 → s .started a ≡ suc p → p < s .finished b
+    pub same-pass : (b : ℕ) → Edge S b a 0 → Met S s b (s .started a)
+    pub pass-before : (b p : ℕ) → Edge S b a 1 → s .started a ≡ suc p → Met S s b p
 
   -- states that agree on the items, and on the places that items access
   pub record Agree (s t : State) : Type 0 where
@@ -55,8 +57,11 @@ module _ (S : System) where
     -- two items that write nothing they both access have no edge between them
     pub only-readers : (a b d : ℕ) → (a ≡ b → ⊥) →
         ((x : ℕ) → Accesses S a x → Accesses S b x → (Writes S a x → ⊥) × (Writes S b x → ⊥)) → Edge S a b d → ⊥
-    -- where all items have the same passes, a start is accepted by the paper's words
-    pub start-rule : EqualPasses → (s : State) (a : ℕ) → CanStart S s a ↔ StartRule s a
+    -- a start is accepted by the papers' words
+    pub start-rule : (s : State) (a : ℕ) → CanStart S s a ↔ StartRule s a
+    -- where every instance that is waited for is made, that a wait can be met without being
+    -- finished never decides
+    pub finished-rule : WaitsMade → (s : State) (a b d p : ℕ) → StartRule s a → Edge S b a d → p + d ≡ s .started a → p < s .finished b
     -- acceptance can be tested, and every test makes the same machine
     pub decides : Decides S
     pub same-machine : (can can′ : Decides S) (s : State) (c : Call) →

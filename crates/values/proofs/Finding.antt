@@ -9,8 +9,8 @@ use Rattle.finite.proofs.Collect.{getD-map}
 use Rattle.body.specs.Body.{Fits}
 use Rattle.body.specs.Items.{Item, task, send, receive, kindOf, itemList, itemCount, itemAt}
 use Rattle.body.proofs.ItemOrder.{receive-after}
+use Rattle.body.proofs.Accessed.{Known, item-known, rank-below}
 use Rattle.edges.specs.Tests.{kindAt, rankAt}
-use Rattle.edges.proofs.Touches.{Known, item-known, rank-below}
 use Rattle.plan.specs.Sizes.{maxItems}
 use Rattle.plan.specs.Code.{codeRank, codeKind, codeSubject}
 use Rattle.plan.specs.Layout.{planWords, regionsOf, tasksOf, bodyOf}

@@ -16,8 +16,8 @@ use Rattle.finite.proofs.Replaced.{length-replaced, replaced-ext, replaced-wher
 use Rattle.body.specs.Body.{Body, firstSlot}
 use Rattle.body.specs.Items.{Item, task, send, receive, kindOf, itemRank, itemAt}
 use Rattle.body.specs.Places.{slot, copy, writesOf, system}
+use Rattle.body.proofs.Accessed.{Known, item-known}
 use Rattle.edges.specs.Tests.{rankAt}
-use Rattle.edges.proofs.Touches.{Known, item-known}
 use Rattle.plan.specs.Sizes.{valueWords, slotOf}
 use Rattle.plan.specs.Code.{codeKind, codeSubject}
 use Rattle.plan.specs.Layout.{bodyOf, writesOf as taskWrites}

@@ -17,9 +17,10 @@ use Rattle.finite.proofs.Tests.{and-true as both-true, or-cases, test-ext}
 use Rattle.finite.proofs.Update.{set-at}
 use Rattle.body.specs.Body.{Body, Fits}
 use Rattle.body.specs.Items.{itemCount, itemAt}
+use Rattle.body.proofs.Accessed.{send-kind, receive-kind}
 use Rattle.edges.specs.Touch.{touch, touchOn}
 use Rattle.edges.specs.Tests.{written, writtenBetween, crossed, kindAt, rankAt, paired, copyEdge, edgeTest}
-use Rattle.edges.proofs.Touches.{touch-most, send-kind, receive-kind}
+use Rattle.edges.proofs.Touches.{touch-most}
 use Rattle.plan.specs.Limits.{maxRegions}
 use Rattle.plan.specs.Sizes.{maxItems}
 use Rattle.plan.specs.Layout.{bodyOf}

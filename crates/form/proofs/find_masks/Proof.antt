@@ -13,4 +13,4 @@ returns-2 : tie.Need-returns-2
 returns-2 c = search (needs, form-counted, masks-found)
 
 pub find-masks-spec : {M : Type 1} → statement M
-find-masks-spec = tie.close (tie.spec (λ c κs. search needs) returns find-transfers-requires (λ c. search needs) returns-2)
+find-masks-spec = tie.close (tie.spec (λ c κs. search needs) returns find-transfers-requires (λ c. search needs) (λ c. search needs) returns-2)

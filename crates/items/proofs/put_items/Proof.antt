@@ -9,10 +9,10 @@ use Rattle.items.proofs.put_items.Statement.{statement}
 use Rattle.items.proofs.put_items.Tie as tie
 
 abbrev Inv-loop : tie.InvT-loop
-Inv-loop items₀ plan masks tasks at₀ i₀ items at i = (i ≤ tasks) × Added (collect i (taskCodes plan masks)) 0 items₀ at items
+Inv-loop items₀ plan masks wraps tasks at₀ i₀ items at i = (i ≤ tasks) × Added (collect i (taskCodes plan masks wraps)) 0 items₀ at items
 
 abbrev μ-loop : tie.MeasureT-loop
-μ-loop items₀ plan masks tasks at₀ i₀ items at i = tasks - i
+μ-loop items₀ plan masks wraps tasks at₀ i₀ items at i = tasks - i
 
 loop-holds : tie.Need-loop-holds Inv-loop μ-loop
 loop-holds c = search (needs, collect-none)

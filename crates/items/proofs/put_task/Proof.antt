@@ -14,7 +14,7 @@ returns : tie.Need-returns
 returns c =
     let all = c .before .before in
     let own = all .before .before .before .before in
-    task-all _ _ _ _ _ _ _ _ (own .put-item .ensures) _ _ (omega (arith, own .before .item-code .ensures .0)) (all .put-accesses .ensures)
+    task-all _ _ _ _ _ _ _ _ _ (own .put-item .ensures) _ _ (omega (arith, own .before .item-code .ensures .0)) (all .put-accesses .ensures)
 
 pub put-task-spec : {M : Type 1} → statement M
 put-task-spec =

@@ -29,7 +29,7 @@ first-ready-requires : tie.Need-first-ready-requires Inv-loop μ-loop
 first-ready-requires c κs =
     let s = c .before .before .before .before .before .before in
     let P = s .pre in
-    (P .1, P .2, P .4 .long-counts, (c .before) .pass-count .ensures .0, search needs)
+    (P .0, P .1, P .2, P .4 .long-counts, (c .before) .pass-count .ensures .0, search needs)
 
 loop-holds : tie.Need-loop-holds Inv-loop μ-loop
 loop-holds c =
@@ -68,6 +68,7 @@ first-ready-requires-2 c κs =
     let l = turn .loop in
     let G = turn-going _ (P .1 .plan) _ _ _ (P .1) _ (P .3) (lent (now (s .args .counts)) (now (s .args .values))) (l .counts) (l .values) (l .steps)
     (l .inv .0) (l .a) (inside .loop-test .taken) (l .inv .1) _ _ (take-turn .take-turn .ensures) in (
+      P .0,
       P .1,
       P .2,
       G .idle .long-counts,

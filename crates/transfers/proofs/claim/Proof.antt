@@ -10,4 +10,4 @@ returns-2 : tie.Need-returns-2
 returns-2 c = search (needs, claimed-no)
 
 pub claim-spec : {M : Type 1} → statement M
-claim-spec = tie.close (tie.spec (λ c. search needs) (λ c κs. search needs) (λ c κs. search needs) (λ c. search needs) returns returns-2)
+claim-spec = tie.close (tie.spec (λ c. search needs) (λ c κs. search needs) (λ c κs. search needs) (λ c. search needs) (λ c. search needs) returns returns-2)

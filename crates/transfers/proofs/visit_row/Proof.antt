@@ -1,5 +1,6 @@
 use Prim.Native.Nat.{_≤_, _-_}
 use mathlib.Core.Path.{_≡_}
+use mathlib.Core.List.{_++_}
 use borrow.Author.Needs.{needs}
 use lib.ListN.{length}
 use Rattle.plan.specs.Limits.{maxRegions}
@@ -10,11 +11,11 @@ use Rattle.transfers.proofs.visit_row.Statement.{statement}
 use Rattle.transfers.proofs.visit_row.Tie as tie
 
 abbrev Inv-loop : tie.InvT-loop
-Inv-loop row count rank base last₀ wanted₀ before total₀ a₀ last wanted total a =
-    (a ≤ count) × (length last ≡ maxRegions) × (last ≡ noted row base a last₀) × (flagsOf wanted ≡ marked row last₀ rank a (flagsOf wanted₀)) × Tallied wanted total
+Inv-loop row count rank base last₀ masks₀ ahead₀ before total₀ a₀ last masks ahead total a =
+    (a ≤ count) × (length last ≡ maxRegions) × (last ≡ noted row base a last₀) × (flagsOf (masks ++ ahead) ≡ marked row last₀ rank a (flagsOf (masks₀ ++ ahead₀))) × Tallied masks ahead total
 
 abbrev μ-loop : tie.MeasureT-loop
-μ-loop row count rank base last₀ wanted₀ before total₀ a₀ last wanted total a = count - a
+μ-loop row count rank base last₀ masks₀ ahead₀ before total₀ a₀ last masks ahead total a = count - a
 
 loop-holds : tie.Need-loop-holds Inv-loop μ-loop
 loop-holds c = search (needs, noted-none, marked-none)
@@ -33,4 +34,4 @@ visit-row-spec =
     tie.close
     (tie.spec Inv-loop μ-loop loop-holds (λ c. search needs) (λ c. search needs) (λ c κs. search needs) (λ c. search needs) (λ c. search needs)
     claim-requires (λ c. search needs) (λ c. search needs) (λ c κs. search needs) (λ c. search needs) (λ c. search needs) loop-again
-    (λ c. search needs) (λ c. search needs) returns)
+    (λ c. search needs) (λ c. search needs) (λ c. search needs) returns)

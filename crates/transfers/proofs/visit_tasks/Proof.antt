@@ -1,5 +1,6 @@
 use Prim.Native.Nat.{_≤_, _-_}
 use mathlib.Core.Path.{_≡_}
+use mathlib.Core.List.{_++_}
 use borrow.Author.Needs.{needs}
 use lib.ListN.{length}
 use Rattle.plan.specs.Limits.{maxRegions}
@@ -11,11 +12,11 @@ use Rattle.transfers.proofs.visit_tasks.Statement.{statement}
 use Rattle.transfers.proofs.visit_tasks.Tie as tie
 
 abbrev Inv-loop : tie.InvT-loop
-Inv-loop plan table n last₀ wanted₀ total₀ t₀ last wanted total t =
-    (t ≤ n) × (length last ≡ maxRegions) × (last ≡ notedTasks plan t last₀) × (flagsOf wanted ≡ markedTasks plan last₀ t (flagsOf wanted₀)) × Tallied wanted total
+Inv-loop plan table n last₀ masks₀ ahead₀ total₀ t₀ last masks ahead total t =
+    (t ≤ n) × (length last ≡ maxRegions) × (last ≡ notedTasks plan t last₀) × (flagsOf (masks ++ ahead) ≡ markedTasks plan last₀ t (flagsOf (masks₀ ++ ahead₀))) × Tallied masks ahead total
 
 abbrev μ-loop : tie.MeasureT-loop
-μ-loop plan table n last₀ wanted₀ total₀ t₀ last wanted total t = n - t
+μ-loop plan table n last₀ masks₀ ahead₀ total₀ t₀ last masks ahead total t = n - t
 
 loop-holds : tie.Need-loop-holds Inv-loop μ-loop
 loop-holds c = search (needs, notedTasks-none, markedTasks-none)
@@ -33,4 +34,4 @@ pub visit-tasks-spec : {M : Type 1} → statement M
 visit-tasks-spec =
     tie.close
     (tie.spec Inv-loop μ-loop loop-holds visit-task-requires (λ c. search needs) (λ c. search needs) loop-again (λ c. search needs)
-    (λ c. search needs) returns)
+    (λ c. search needs) (λ c. search needs) returns)

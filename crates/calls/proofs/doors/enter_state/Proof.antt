@@ -30,26 +30,27 @@ pass-count-requires c κs =
 
 are-formed-requires : tie.Need-are-formed-requires
 are-formed-requires c κs =
-    let entered = c .before .before .before .before .before .before in
+    let entered = c .before .before .before .before .before .before .before in
     let a = entered .before .before .before .before .before .args in
     let e = entered .enter-plan .ensures in
-    let k = c .before .before .if1 .left in
+    let k = c .before .before .before .if1 .left in
     let G = lent-graph (now (a .plan)) (now (a .counts)) (now (a .table)) (a .long) _ _ e k in
-    (lent-counts (now (a .plan)) (now (a .counts)) (now (a .table)) (a .long) _ _ e k, c .pass-count .ensures .1, G .most)
+    let few = G .most in
+    (lent-counts (now (a .plan)) (now (a .counts)) (now (a .table)) (a .long) _ _ e k, search needs, c .before .pass-count .ensures .1, few)
 
 returns-2 : tie.Need-returns-2
 returns-2 c =
-    let entered = c .before .before .before .before .before .before .before .before in
+    let entered = c .before .before .before .before .before .before .before .before .before in
     let a = entered .before .before .before .before .before .args in
-    state-clear (now (a .plan)) (now (a .counts)) (now (a .table)) (a .long) _ _ (entered .enter-plan .ensures) (c .before .before .before .before .if1 .left)
-    _ (c .before .before .pass-count .ensures .0) _ (c .before .are-formed .ensures) (c .if2 .taken)
+    state-clear (now (a .plan)) (now (a .counts)) (now (a .table)) (a .long) _ _ (entered .enter-plan .ensures) (c .before .before .before .before .before .if1 .left)
+    _ (c .before .before .before .pass-count .ensures .0) _ (c .before .are-formed .ensures) (c .if2 .taken)
 
 returns-3 : tie.Need-returns-3
 returns-3 c =
-    let entered = c .before .before .before .before .before .before .before .before .before in
+    let entered = c .before .before .before .before .before .before .before .before .before .before in
     let a = entered .before .before .before .before .before .args in
-    state-unformed (now (a .plan)) (now (a .counts)) (now (a .table)) (a .long) _ _ (entered .enter-plan .ensures) (c .before .before .before .before .before .if1 .left)
-    _ (c .before .before .before .pass-count .ensures .0) _ (c .before .before .are-formed .ensures) _ (c .before .if2 .left) (c .no-entry .ensures)
+    state-unformed (now (a .plan)) (now (a .counts)) (now (a .table)) (a .long) _ _ (entered .enter-plan .ensures) (c .before .before .before .before .before .before .if1 .left)
+    _ (c .before .before .before .before .pass-count .ensures .0) _ (c .before .before .are-formed .ensures) _ (c .before .if2 .left) (c .no-entry .ensures)
 
 pub enter-state-spec : {M : Type 1} → statement M
 enter-state-spec =

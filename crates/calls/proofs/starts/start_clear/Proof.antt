@@ -17,51 +17,57 @@ pass-count-requires c κs = let G = c .before .before .before .before .before .b
 
 returns-2 : tie.Need-returns-2
 returns-2 c =
-    let index = c .before .before .before .before .before in
+    let own = c .before .before in
+    let index = own .before .before .before .before .before in
     let s = index .before .before .before .before .before .before in
     let a = s .args in
     told-refused (now (a .plan)) (now (a .counts)) (now (a .values)) _ _ (c .no-word2 .ensures)
     (start-done _ (now (a .counts)) _ _ (s .pre .0) (now (a .values)) (s .pre .1) _ _ (index .as-index .ensures)
-    (omega (arith, index .before .if1 .left, index .before .before .as-word .ensures)) _ (c .before .before .pass-count .ensures .0) (c .before .if2 .taken))
+    (omega (arith, index .before .if1 .left, index .before .before .as-word .ensures)) _ _ (own .before .before .pass-count .ensures .0) (own .own-passes .ensures)
+    (c .before .if2 .taken))
 
 returns-3 : tie.Need-returns-3
 returns-3 c =
-    let index = c .before .before .before .before .before .before in
+    let own = c .before .before .before in
+    let index = own .before .before .before .before .before in
     let s = index .before .before .before .before .before .before in
     let a = s .args in
     told-refused (now (a .plan)) (now (a .counts)) (now (a .values)) _ _ (c .no-word3 .ensures)
     (start-running _ (now (a .counts)) _ _ (s .pre .0) (now (a .values)) (s .pre .1) _ _ (index .as-index .ensures)
-    (omega (arith, index .before .if1 .left, index .before .before .as-word .ensures))
-    _ (c .before .before .before .pass-count .ensures .0) (omega (arith, c .before .before .if2 .left)) (c .before .if3 .taken))
+    (omega (arith, index .before .if1 .left, index .before .before .as-word .ensures)) _ _ (own .before .before .pass-count .ensures .0) (own .own-passes .ensures)
+    (omega (arith, c .before .before .if2 .left)) (c .before .if3 .taken))
 
 returns-4 : tie.Need-returns-4
 returns-4 c =
     let waits = c .before .before in
-    let index = waits .before .before .before .before .before .before .before .before in
+    let own = waits .before .before .before .before .before in
+    let index = own .before .before .before .before .before in
     let s = index .before .before .before .before .before .before in
     let a = s .args in
     told-refused (now (a .plan)) (now (a .counts)) (now (a .values)) _ _ (c .no-word4 .ensures)
     (start-waiting _ (now (a .counts)) _ _ (s .pre .0) (now (a .values)) (s .pre .1) _ _ (index .as-index .ensures)
-    (omega (arith, index .before .if1 .left, index .before .before .as-word .ensures)) _ (waits .before .before .before .before .before .pass-count .ensures .0)
+    (omega (arith, index .before .if1 .left, index .before .before .as-word .ensures)) _ _ (own .before .before .pass-count .ensures .0) (own .own-passes .ensures)
     (omega (arith, waits .before .before .before .before .if2 .left)) (omega (arith, waits .before .before .before .if3 .left)) _ (waits .waits-met .ensures) (c .before .if4 .taken))
 
 start-item-requires : tie.Need-start-item-requires
 start-item-requires c κs =
     let waits = c .before .before .before .before .before in
-    let index = waits .before .before .before .before .before .before .before .before in
+    let own = waits .before .before .before .before .before in
+    let index = own .before .before .before .before .before in
     let s = index .before .before .before .before .before .before in
     start-asks _ (now (s .args .counts)) _ _ (s .pre .0) (now (s .args .values)) (s .pre .1) _ _ (index .as-index .ensures)
-    (omega (arith, index .before .if1 .left, index .before .before .as-word .ensures)) _ (waits .before .before .before .before .before .pass-count .ensures .0)
+    (omega (arith, index .before .if1 .left, index .before .before .as-word .ensures)) _ _ (own .before .before .pass-count .ensures .0) (own .own-passes .ensures)
     (omega (arith, waits .before .before .before .before .if2 .left)) (omega (arith, waits .before .before .before .if3 .left)) _ (waits .waits-met .ensures) _ (c .before .before .wide-16 .ensures .0)
 
 returns-5 : tie.Need-returns-5
 returns-5 c =
     let begun = c .before .before .before .before in
     let waits = begun .before .before .before .before .before .before in
-    let index = waits .before .before .before .before .before .before .before .before in
+    let own = waits .before .before .before .before .before in
+    let index = own .before .before .before .before .before in
     let s = index .before .before .before .before .before .before in
     start-made _ (now (s .args .counts)) _ _ (s .pre .0) (now (s .args .values)) (s .pre .1) _ _ (index .as-index .ensures)
-    (omega (arith, index .before .if1 .left, index .before .before .as-word .ensures)) _ (waits .before .before .before .before .before .pass-count .ensures .0)
+    (omega (arith, index .before .if1 .left, index .before .before .as-word .ensures)) _ _ (own .before .before .pass-count .ensures .0) (own .own-passes .ensures)
     (omega (arith, waits .before .before .before .before .if2 .left)) (omega (arith, waits .before .before .before .if3 .left))
     _ (waits .waits-met .ensures) (begun .before .before .before .before .before .if4 .left) _ (begun .start-item .ensures)
 
@@ -69,6 +75,6 @@ pub start-clear-spec : {M : Type 1} → statement M
 start-clear-spec =
     tie.close
     (tie.spec (λ c κs. search needs) (λ c κs. search needs) returns (λ c κs. search needs) (λ c. search needs) (λ c. search needs) (λ c. search needs)
-    (λ c. search needs) (λ c. search needs) pass-count-requires (λ c κs. search needs) returns-2 (λ c κs. search needs) returns-3 (λ c. search needs)
+    (λ c. search needs) (λ c. search needs) pass-count-requires (λ c. search needs) (λ c. search needs) (λ c κs. search needs) (λ c κs. search needs) returns-2 (λ c κs. search needs) returns-3 (λ c. search needs)
     (λ c. search needs) (λ c. search needs) (λ c κs. search needs) (λ c κs. search needs) (λ c. search needs) returns-4 (λ c. search needs)
     (λ c. search needs) (λ c κs. search needs) start-item-requires (λ c. search needs) (λ c. search needs) returns-5)

@@ -5,10 +5,10 @@ use Rattle.runs.proofs.chains.first_ready.Statement.{statement}
 use Rattle.runs.proofs.chains.first_ready.Tie as tie
 
 abbrev Inv-loop : tie.InvT-loop
-Inv-loop plan edges n m heads nexts counts passes low b₀ b = NoneReady plan counts low b
+Inv-loop plan table edges n m heads nexts counts passes low b₀ b = NoneReady plan counts low b
 
 abbrev μ-loop : tie.MeasureT-loop
-μ-loop plan edges n m heads nexts counts passes low b₀ b = n - b
+μ-loop plan table edges n m heads nexts counts passes low b₀ b = n - b
 
 loop-holds : tie.Need-loop-holds Inv-loop μ-loop
 loop-holds c = none-yet _ _ _

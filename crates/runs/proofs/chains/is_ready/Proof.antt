@@ -6,10 +6,10 @@ use Rattle.runs.proofs.chains.is_ready.Statement.{statement}
 use Rattle.runs.proofs.chains.is_ready.Tie as tie
 
 abbrev Inv-loop : tie.InvT-loop
-Inv-loop plan edges n m heads nexts counts passes b pass left₀ left = Tested plan edges counts m b left
+Inv-loop plan table edges n m heads nexts counts passes b pass left₀ left = Tested plan edges counts m b left
 
 abbrev μ-loop : tie.MeasureT-loop
-μ-loop plan edges n m heads nexts counts passes b pass left₀ left = left
+μ-loop plan table edges n m heads nexts counts passes b pass left₀ left = left
 
 returns : tie.Need-returns Inv-loop μ-loop
 returns c = search (needs, none-left)
@@ -25,10 +25,10 @@ returns-2 c =
     let source = c .before .before .before in
     let inside = source .before in
     let turn = inside .before in
-    let s = turn .before .before .before .before .before .before .before .before in
+    let s = turn .before .before .before .before .before .before .before .before .before .before in
     let P = s .pre in
     let l = turn .loop in
-    not-met _ _ _ _ _ _ (P .0) (P .4) _ _ (P .1) _ _ _ _ _ (l .inv) (inside .loop-test .taken) refl (source .source .ensures .0) refl
+    not-met _ _ _ _ _ _ (P .1) (P .5) _ _ (P .2) _ _ _ _ _ (l .inv) (inside .loop-test .taken) refl (source .source .ensures .0) refl
     ((c .before) .is-met .ensures) (not-true _ (c .if2 .taken))
 
 loop-less : tie.Need-loop-less Inv-loop μ-loop
@@ -41,10 +41,10 @@ loop-again c =
     let source = is-met .before .before in
     let inside = source .before in
     let turn = inside .before in
-    let s = turn .before .before .before .before .before .before .before .before in
+    let s = turn .before .before .before .before .before .before .before .before .before .before in
     let P = s .pre in
     let l = turn .loop in
-    tested-more _ _ _ _ _ _ (P .0) (P .4) _ _ (P .1) _ _ _ _ _ (l .inv) (inside .loop-test .taken) refl (source .source .ensures .0) refl
+    tested-more _ _ _ _ _ _ (P .1) (P .5) _ _ (P .2) _ _ _ _ _ (l .inv) (inside .loop-test .taken) refl (source .source .ensures .0) refl
     (is-met .is-met .ensures)
     (not-false _ (else2 .if2 .left)) _ (c .index-162 .ensures)
 
@@ -54,6 +54,6 @@ returns-3 c = search (needs, all-met)
 pub is-ready-spec : {M : Type 1} → statement M
 is-ready-spec =
     tie.close
-    (tie.spec Inv-loop μ-loop (λ c. search needs) (λ c. search needs) (λ c. search needs) returns (λ c. search needs) (λ c. search needs)
+    (tie.spec Inv-loop μ-loop (λ c. search needs) (λ c. search needs) (λ c. search needs) (λ c. search needs) (λ c. search needs) (λ c κs. search needs) returns (λ c. search needs) (λ c. search needs)
     (λ c κs. search needs) loop-holds (λ c. search needs) source-requires (λ c. search needs) (λ c. search needs) (λ c. search needs)
     (λ c κs. search needs) returns-2 (λ c. search needs) (λ c. search needs) (λ c κs. search needs) loop-less loop-again returns-3)
