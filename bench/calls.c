@@ -1,7 +1,7 @@
-/* Makes one call, for an instruction count of it: calls (read|form|items|edges) PLAN, or calls
-   write PLAN [LENGTH], where the text slice has this length, else TASKITER_TEXT_BYTES. Prints what
-   the count is set against: the text's length, or the number that the call answers; where writing
-   is refused, the refusal. */
+/* Makes one call, for an instruction count of it: calls (read|form|items|edges|total) PLAN, or
+   calls write PLAN [LENGTH], where the text slice has this length, else TASKITER_TEXT_BYTES. Prints
+   what the count is set against: the text's length, or the number that the call answers; where
+   writing is refused, the refusal. */
 #include <stdbool.h>
 #include <stddef.h>
 #include <stdint.h>
@@ -42,6 +42,8 @@ int main(int argc, char **argv) {
         shown = taskiter_items(plan, TASKITER_PLAN_WORDS, items, TASKITER_MAX_ITEMS).number;
     if (strcmp(argv[1], "edges") == 0)
         shown = taskiter_edges(plan, TASKITER_PLAN_WORDS, list, TASKITER_EDGE_NUMBERS).number;
+    if (strcmp(argv[1], "total") == 0)
+        shown = taskiter_total(plan, TASKITER_PLAN_WORDS).number;
     if (strcmp(argv[1], "write") == 0)
         shown = write_plan(argc > 3 ? strtoull(argv[3], NULL, 10) : TASKITER_TEXT_BYTES);
     printf("%" PRIu64 "\n", shown);

@@ -1,6 +1,6 @@
 /* Makes one call through the C boundary, for an instruction count of it: steps (start|finish|result|open|short) PLAN [ITEM]. The call is made
    by `measured` alone. Before a start or finish of an item in pass 0 the items before it have finished that pass, so that the call is accepted;
-   before a result all items have finished all passes. Prints the number of items; fails where the call is not answered as it should be. */
+   before a result all items have finished their passes. Prints the number of items; fails where the call is not answered as it should be. */
 #include <stddef.h>
 #include <stdint.h>
 #include <stdlib.h>
@@ -12,6 +12,7 @@ static char text[TEXT_ROOM];
 static uint64_t plan[TASKITER_PLAN_WORDS];
 static TASKITER_COUNT_TYPE counts[TASKITER_COUNTS];
 static uint64_t values[TASKITER_VALUES];
+static uint16_t items[TASKITER_MAX_ITEMS];
 
 static uint64_t measured(const char *call, uint64_t item) __attribute__((noinline));
 
@@ -30,12 +31,10 @@ static uint64_t measured(const char *call, uint64_t item) {
     }
 }
 
-/* How many items the plan has: starts of the others are refused with 13. */
-static uint64_t item_count(void) {
-    uint64_t n = 0;
-    while (n < TASKITER_MAX_ITEMS && taskiter_start(plan, TASKITER_PLAN_WORDS, counts, TASKITER_COUNTS, values, TASKITER_VALUES, n).refusal != 13)
-        n++;
-    return n;
+/* The passes that an item has. */
+static uint32_t own_passes(uint64_t item) {
+    uint32_t passes = (uint32_t)plan[0], fewer = TASKITER_ITEM_FEWER(items[item]);
+    return passes > fewer ? passes - fewer : 0;
 }
 
 int main(int argc, char **argv) {
@@ -48,17 +47,15 @@ int main(int argc, char **argv) {
         return 1;
     if (taskiter_open(plan, TASKITER_PLAN_WORDS, counts, TASKITER_COUNTS, values, TASKITER_VALUES) != 0)
         return 1;
-    uint64_t items = item_count();
-    uint64_t done = strcmp(call, "result") == 0 ? items : item;
-    uint32_t passes = strcmp(call, "result") == 0 ? (uint32_t)plan[0] : 1;
-    memset(counts, 0, sizeof counts);
-    for (uint64_t a = 0; a < done; a++)
-        counts[a] = counts[TASKITER_MAX_ITEMS + a] = passes;
+    uint64_t number = taskiter_items(plan, TASKITER_PLAN_WORDS, items, TASKITER_MAX_ITEMS).number;
+    int whole = strcmp(call, "result") == 0;
+    for (uint64_t a = 0; a < (whole ? number : item); a++)
+        counts[a] = counts[TASKITER_MAX_ITEMS + a] = whole ? own_passes(a) : 1;
     if (strcmp(call, "finish") == 0)
         counts[item] = 1;
     uint64_t refusal = measured(call, item);
     if (refusal != (strcmp(call, "short") == 0 ? 11 : 0))
         return 1;
-    printf("%" PRIu64 "\n", items);
+    printf("%" PRIu64 "\n", number);
     return 0;
 }

@@ -48,11 +48,58 @@ static void put_counts(struct trial *trial, struct rng *rng) {
         most = draw_below(rng, 3) == 0 ? passes : draw_below(rng, passes + 1);
     bool done = draw_below(rng, 4) == 0;
     for (int a = 0; a < trial->shape.graph.items; a++) {
-        int f = done ? passes : most - draw_below(rng, most > 2 ? 3 : most + 1);
+        int own = own_passes(&trial->shape.plan, &trial->shape.graph.item[a]),
+            f = done ? passes : most - draw_below(rng, most > 2 ? 3 : most + 1);
+        f = f < own ? f : own;
         trial->lent.counts[MAX_ITEMS + a] = (uint32_t)f;
-        trial->lent.counts[a] = (uint32_t)(f + (f < passes && draw_below(rng, 3) == 0));
+        trial->lent.counts[a] = (uint32_t)(f + (f < own && draw_below(rng, 3) == 0));
     }
     memcpy(trial->expected.counts, trial->lent.counts, sizeof trial->lent.counts);
+}
+
+/* Puts the counts of one item into both memories. */
+static void put_item_counts(struct trial *trial, int item, uint32_t started, uint32_t finished) {
+    trial->lent.counts[item] = trial->expected.counts[item] = started;
+    trial->lent.counts[MAX_ITEMS + item] = trial->expected.counts[MAX_ITEMS + item] = finished;
+}
+
+/* A start of an item with these counts; whether it is refused with this number. Leaves the memory
+   as it was. */
+static bool refused_with(struct trial *trial, int item, int started, int finished,
+                         uint64_t refusal) {
+    static struct memory kept;
+    kept = trial->lent;
+    put_item_counts(trial, item, (uint32_t)started, (uint32_t)finished);
+    bool same = try_call(trial, START_CALL, least, (uint64_t)item).refusal == refusal;
+    trial->lent = trial->expected = kept;
+    return same;
+}
+
+/* An item of a wrapped transfer, or -1 where there is none. */
+static int draw_wrapped(struct trial *trial, struct rng *rng) {
+    const struct graph *graph = &trial->shape.graph;
+    int from = draw_below(rng, graph->items);
+    for (int k = 0; k < graph->items; k++)
+        if (graph->item[(from + k) % graph->items].fewer > 0)
+            return (from + k) % graph->items;
+    return -1;
+}
+
+/* The counts of an item of a wrapped transfer about its own last pass, those of the others being in
+   form. Finished, it gives 14. A pass more, started or finished, is 12, though the plan has it; a
+   pass less is not. */
+static void try_last_pass(struct trial *trial, struct rng *rng) {
+    int item = draw_wrapped(trial, rng), last = trial->shape.plan.passes, own = last - 1;
+    if (item < 0 || last == 0)
+        return;
+    if (!refused_with(trial, item, own, own, 14))
+        differ(trial, "item %d has finished its own last pass, and 14 is not given", item);
+    if (!refused_with(trial, item, last, own, 12) || !refused_with(trial, item, last, last, 12) ||
+        !refused_with(trial, item, own, last, 12))
+        differ(trial, "item %d has the last pass of the plan, and 12 is not given", item);
+    if (own > 0 && (!refused_with(trial, item, own, own - 1, 15) ||
+                    refused_with(trial, item, own - 1, own - 1, 12)))
+        differ(trial, "item %d has a pass left, and is refused for its counts", item);
 }
 
 /* Makes each call once, and a list of three, with the memory as it is, and puts it back. */
@@ -97,6 +144,7 @@ static void try_damaged_word(struct trial *trial, struct rng *rng) {
     try_all(trial, rng, draw_enough(rng));
     try_items(trial, PLAN_WORDS, ITEM_ROOM);
     try_edges(trial, PLAN_WORDS, EDGE_ROOM);
+    try_total(trial, PLAN_WORDS);
     try_write(trial, PLAN_WORDS, TEXT_BYTES);
     trial->lent.plan[at] = trial->expected.plan[at] = kept;
     trial->shape = shape;
@@ -109,15 +157,18 @@ static void try_no_plan(struct trial *trial, struct rng *rng) {
     draw_body(rng, size_of(trial->number), &plan);
     put_plan(trial, &plan);
     try_all(trial, rng, least);
+    try_total(trial, PLAN_WORDS);
     try_write(trial, PLAN_WORDS, TEXT_BYTES);
     fill_memory(trial, rng);
     put_word(trial, 0, 1);
     try_all(trial, rng, least);
+    try_total(trial, PLAN_WORDS);
     try_write(trial, PLAN_WORDS, TEXT_BYTES);
     memset(trial->lent.plan, 0, sizeof trial->lent.plan);
     memset(trial->expected.plan, 0, sizeof trial->expected.plan);
     put_word(trial, 0, 0);
     try_all(trial, rng, least);
+    try_total(trial, PLAN_WORDS);
     try_write(trial, PLAN_WORDS, 0);
 }
 
@@ -125,6 +176,7 @@ void damage_group(struct trial *trial, struct rng *rng) {
     put_drawn_plan(trial, rng);
     try_state(trial, rng);
     put_counts(trial, rng);
+    try_last_pass(trial, rng);
     for (int k = 0; k < 8; k++)
         try_damaged_count(trial, rng);
     for (int k = 0; k < 16; k++)
@@ -173,9 +225,12 @@ void short_group(struct trial *trial, struct rng *rng) {
         try_all(trial, rng, draw_lengths(rng));
     try_items(trial, PLAN_WORDS, ITEM_ROOM - 1);
     try_edges(trial, PLAN_WORDS, EDGE_ROOM - 1);
+    try_total(trial, PLAN_WORDS - 1);
+    try_total(trial, 0);
     for (int k = 0; k < 4; k++) {
         try_items(trial, draw_length(rng, PLAN_WORDS), draw_length(rng, ITEM_ROOM));
         try_edges(trial, draw_length(rng, PLAN_WORDS), draw_length(rng, EDGE_ROOM));
+        try_total(trial, draw_length(rng, PLAN_WORDS));
         try_write(trial, draw_length(rng, PLAN_WORDS), draw_length(rng, TEXT_BYTES));
     }
     try_read(trial, text, (size_t)draw_below(rng, sizeof text), PLAN_WORDS - 1);

@@ -13,8 +13,8 @@ struct rng {
 };
 
 /* SMALL plans are played to their end many times over. LARGEST and RING have as many items as a
-   plan can have: 128 tasks and 256 transfers, 640 items. In a RING every word that is sent is read
-   in the next pass. */
+   plan can have: 128 tasks and 256 transfers, 640 items. In a RING each transfer serves one read,
+   more often before its writer than behind it. */
 enum size { SMALL, MIDDLE, LARGE, LARGEST, RING, SIZES };
 
 /* The random numbers that belong to a number under a seed. */

@@ -1,7 +1,7 @@
 /* expected FILE: prints what the run program has to print for a plan text, by the second method
-   alone: the reader of reading.c, the items of graph.c, the edge rule tried on every pair of
-   instances, and the unrolled loop. It uses nothing of the runtime. Exit status 0, 1 where the text
-   is refused, 2 where it cannot be read. */
+   alone: the reader of reading.c, the items of graph.c with their passes, the edge rule tried on
+   every pair of instances, and the unrolled loop. It uses nothing of the runtime. Exit status 0, 1
+   where the text is refused, 2 where it cannot be read. */
 #include <inttypes.h>
 #include <stdio.h>
 
@@ -24,6 +24,14 @@ static void print_edges(const struct graph *graph) {
             for (int distance = 0; distance < DISTANCES; distance++)
                 if (rule_holds(graph, a, b, distance))
                     printf("edge %d %d %d\n", a, b, distance);
+}
+
+/* Two steps for each pass of each item. */
+static void print_steps(const struct plan *plan, const struct graph *graph) {
+    long steps = 0;
+    for (int a = 0; a < graph->items; a++)
+        steps += 2L * own_passes(plan, &graph->item[a]);
+    printf("steps %ld\n", steps);
 }
 
 static void print_values(const struct plan *plan) {
@@ -53,7 +61,7 @@ int main(int argc, char **argv) {
     make_graph(&plan, &graph);
     print_items(&graph);
     print_edges(&graph);
-    printf("steps %ld\n", 2L * plan.passes * graph.items);
+    print_steps(&plan, &graph);
     print_values(&plan);
     return 0;
 }

@@ -43,11 +43,11 @@ int main(int argc, char **argv) {
         printf("refused %" PRIu64 " %" PRIu64 "\n", reading.refusal, reading.line);
         return 1;
     }
-    uint64_t passes = plan[0], regions = plan[2];
+    uint64_t regions = plan[2];
     uint64_t number = taskiter_items(plan, TASKITER_PLAN_WORDS, items, TASKITER_MAX_ITEMS).number;
+    uint64_t left = taskiter_total(plan, TASKITER_PLAN_WORDS).number;
 
     taskiter_open(plan, TASKITER_PLAN_WORDS, counts, TASKITER_COUNTS, values, TASKITER_VALUES);
-    uint64_t left = 2 * passes * number;
     while (left > 0) {
         for (uint64_t item = 0; item < number; item++) {
             left -= start(item);

@@ -22,8 +22,8 @@ static void add_task(const struct plan *plan, struct graph *graph, int i) {
                   writes(task->access[a]));
 }
 
-static void add_transfer(const struct plan *plan, struct graph *graph, int i, int region,
-                         int rank) {
+static void add_transfer(const struct plan *plan, struct graph *graph, int i, int region, int rank,
+                         bool wrapped) {
     int from = plan->task[i].rank, slot = FIRST_SLOT + graph->items;
     struct item *send = add_item(graph, SEND, from, i, region);
     add_touch(send, from * plan->regions + region, true, false);
@@ -31,19 +31,29 @@ static void add_transfer(const struct plan *plan, struct graph *graph, int i, in
     struct item *receive = add_item(graph, RECEIVE, rank, i, region);
     add_touch(receive, slot, true, true);
     add_touch(receive, rank * plan->regions + region, false, true);
+    send->fewer = receive->fewer = wrapped;
+    graph->wrapped += wrapped;
+}
+
+/* Adds the transfers of the word that task i writes to the region. */
+static void add_transfers(const struct plan *plan, struct graph *graph, const struct wants *wants,
+                          int i, int region) {
+    int before = wants->before[i][region], behind = wants->behind[i][region];
+    for (int q = 0; q < plan->ranks; q++)
+        if (((before | behind) >> q & 1) != 0)
+            add_transfer(plan, graph, i, region, q, (behind >> q & 1) == 0);
 }
 
 static void add_items(const struct plan *plan, struct graph *graph) {
     static struct wants wants;
     find_wants(plan, &wants);
-    graph->items = 0;
+    graph->items = graph->wrapped = 0;
     for (int i = 0; i < plan->tasks; i++) {
         const struct task *task = &plan->task[i];
         add_task(plan, graph, i);
         for (int a = 0; a < task->accesses; a++)
-            for (int q = 0; writes(task->access[a]) && q < plan->ranks; q++)
-                if ((wants.ranks[i][task->access[a].region] >> q & 1) != 0)
-                    add_transfer(plan, graph, i, task->access[a].region, q);
+            if (writes(task->access[a]))
+                add_transfers(plan, graph, &wants, i, task->access[a].region);
     }
 }
 
@@ -141,6 +151,22 @@ static bool written_between(const struct graph *graph, int place, int after, int
         const struct touch *touch = touch_of(&graph->item[k % graph->items], place);
         if (touch != NULL && touch->written)
             return true;
+    }
+    return false;
+}
+
+int own_passes(const struct plan *plan, const struct item *item) {
+    return plan->passes > item->fewer ? plan->passes - item->fewer : 0;
+}
+
+bool read_in_pass(const struct graph *graph, int receive) {
+    int place = graph->item[receive].touch[1].place;
+    for (int b = receive + 1; b < graph->items; b++) {
+        const struct touch *touch = touch_of(&graph->item[b], place);
+        if (touch != NULL && touch->read && graph->item[b].kind == TASK)
+            return true;
+        if (touch != NULL && touch->written)
+            return false;
     }
     return false;
 }

@@ -24,10 +24,11 @@ struct touch {
     bool read, written;
 };
 
-/* `task` is the item's task, or the writer of its transfer. */
+/* `task` is the item's task, or the writer of its transfer. `fewer` is how many passes fewer than
+   the plan the item has: 1 where its transfer is wrapped, else 0. */
 struct item {
     enum kind kind;
-    int rank, task, region, touches;
+    int rank, task, region, fewer, touches;
     struct touch touch[MAX_PLACES];
 };
 
@@ -36,9 +37,10 @@ struct edge {
 };
 
 /* Edges stand in the order from, to, distance. Those into item b are `into` from first_into[b] on,
-   as far as first_into[b + 1]. */
+   as far as first_into[b + 1]. `wrapped` is the number of wrapped transfers: those of which every
+   read that they serve stands at or before their writer in the body. */
 struct graph {
-    int items, edges;
+    int items, edges, wrapped;
     struct item item[MAX_ITEMS];
     struct edge edge[MAX_EDGES], into[MAX_EDGES];
     int first_into[MAX_ITEMS + 1];
@@ -52,5 +54,12 @@ void make_graph(const struct plan *plan, struct graph *graph);
    that both access and one writes, b after a, and no item between that writes it; or an item and
    itself in the next pass. */
 bool rule_holds(const struct graph *graph, int a, int b, int distance);
+
+/* The passes that an item of the plan has: the plan's, less those that it has fewer, or 0. */
+int own_passes(const struct plan *plan, const struct item *item);
+
+/* Whether a task reads the copy that a receive writes in the same pass, behind the receive and
+   before another item writes it: found by the places alone. */
+bool read_in_pass(const struct graph *graph, int receive);
 
 #endif

@@ -11,7 +11,8 @@ void paper_group(struct trial *trial, struct rng *rng);
 /* Texts in order and damaged: refusal, line and plan are those of the paper's list. */
 void reading_group(struct trial *trial, struct rng *rng);
 
-/* Items and edges are those of the paper's rule, which is tried on every pair of instances. */
+/* Items and edges are those of the paper's rule, which is tried on every pair of instances. The
+   total is two steps for each pass that an item has. */
 void graph_group(struct trial *trial, struct rng *rng);
 
 /* A whole play in a random order, with calls between that may be refused: each word is the unrolled
@@ -26,7 +27,8 @@ void lists_group(struct trial *trial, struct rng *rng);
    length, and plans with one word changed. */
 void writing_group(struct trial *trial, struct rng *rng);
 
-/* Plans and counts with one word changed, and states that belong to no loop. */
+/* Plans and counts with one word changed, states that belong to no loop, and counts about the last
+   pass of a wrapped transfer's items. */
 void damage_group(struct trial *trial, struct rng *rng);
 
 /* Slices too short. */

@@ -11,6 +11,11 @@ void make_shape(const uint64_t *words, struct shape *shape) {
         make_graph(&shape->plan, &shape->graph);
 }
 
+/* The passes that an item has. */
+static uint32_t passes_of(const struct shape *shape, int item) {
+    return (uint32_t)own_passes(&shape->plan, &shape->graph.item[item]);
+}
+
 static uint32_t started(const struct memory *memory, int item) {
     return memory->counts[item];
 }
@@ -22,9 +27,8 @@ static uint32_t finished(const struct memory *memory, int item) {
 /* Whether every item's counts can stand: as many passes started as finished, or one more with a
    pass left. */
 static bool counts_formed(const struct shape *shape, const struct memory *memory) {
-    uint64_t passes = (uint64_t)shape->plan.passes;
     for (int a = 0; a < shape->graph.items; a++) {
-        uint64_t s = started(memory, a), f = finished(memory, a);
+        uint64_t s = started(memory, a), f = finished(memory, a), passes = passes_of(shape, a);
         if (f > passes || !(s == f || (s == f + 1 && f < passes)))
             return false;
     }
@@ -33,23 +37,32 @@ static bool counts_formed(const struct shape *shape, const struct memory *memory
 
 bool complete(const struct shape *shape, const struct memory *memory) {
     for (int a = 0; a < shape->graph.items; a++)
-        if (finished(memory, a) != (uint32_t)shape->plan.passes)
+        if (finished(memory, a) != passes_of(shape, a))
             return false;
     return true;
+}
+
+/* Whether the source of an edge has finished for this pass of the item that the edge leads into. An
+   instance that is not made counts as met. */
+static bool wait_met(const struct shape *shape, const struct memory *memory,
+                     const struct edge *edge, uint32_t pass) {
+    if (pass < (uint32_t)edge->distance)
+        return true;
+    uint32_t instance = pass - (uint32_t)edge->distance;
+    return instance >= passes_of(shape, edge->from) || finished(memory, edge->from) > instance;
 }
 
 /* Whether everything has finished that the item's next pass waits for. */
 static bool waits_met(const struct shape *shape, const struct memory *memory, int item) {
     const struct graph *graph = &shape->graph;
-    uint32_t pass = finished(memory, item);
     for (int e = graph->first_into[item]; e < graph->first_into[item + 1]; e++)
-        if (finished(memory, graph->into[e].from) + (uint32_t)graph->into[e].distance < pass + 1)
+        if (!wait_met(shape, memory, &graph->into[e], finished(memory, item)))
             return false;
     return true;
 }
 
 static uint64_t start_refusal(const struct shape *shape, const struct memory *memory, int item) {
-    if (finished(memory, item) == (uint32_t)shape->plan.passes)
+    if (finished(memory, item) == passes_of(shape, item))
         return 14;
     if (started(memory, item) != finished(memory, item))
         return 15;
@@ -164,6 +177,16 @@ uint64_t model_play(const struct shape *shape, struct memory *memory, struct len
         answers[2 * k + 1] = answer.word;
     }
     return 0;
+}
+
+struct answer model_total(const struct shape *shape, size_t plan_length) {
+    if (plan_length < PLAN_WORDS)
+        return (struct answer){11, 0};
+    if (!shape->formed)
+        return (struct answer){12, 0};
+    int64_t passes = shape->plan.passes, items = shape->graph.items;
+    int64_t total = passes == 0 ? 0 : 2 * (passes * items - 2 * shape->graph.wrapped);
+    return (struct answer){0, (uint64_t)total};
 }
 
 struct answer model_write(const struct shape *shape, size_t plan_length, uint8_t *text,

@@ -50,11 +50,14 @@ uint64_t model_play(const struct shape *shape, struct memory *memory, struct len
                     const uint64_t *calls, size_t number, uint64_t *answers,
                     size_t answers_length);
 
+/* The total of steps of a plan of this shape. The word is the number. */
+struct answer model_total(const struct shape *shape, size_t plan_length);
+
 /* Writes a plan of this shape into the text. The word is the length. */
 struct answer model_write(const struct shape *shape, size_t plan_length, uint8_t *text,
                           size_t text_length);
 
-/* Whether every item has finished every pass. */
+/* Whether every item has finished its passes. */
 bool complete(const struct shape *shape, const struct memory *memory);
 
 /* Whether a start or finish of the item is accepted, in a state whose counts are in form. */

@@ -1,7 +1,7 @@
 /* Plays the paper's example on two ranks in three orders, and shows that the results are the same:
    the lowest step first; every start before any finish, so that items run side by side; and steps
-   at random. Exit status 0 if there are 4 items and 10 edges, and every order took 16 steps and
-   gave 7 and 13. */
+   at random. Exit status 0 if there are 4 items, 10 edges and a total of 16 steps, and every order
+   took so many and gave 7 and 13. */
 #include <inttypes.h>
 #include <stdbool.h>
 #include <stdio.h>
@@ -88,15 +88,18 @@ static bool play(const char *name, int (*order)(int)) {
     return same;
 }
 
-/* Shows the items with their ranks, and how many edges there are. */
+/* Shows the items with their ranks, how many edges there are, and the total of steps. */
 static bool show_graph(void) {
     static const char *const kinds[] = {"task", "send", "receive"};
     taskiter_number n = taskiter_items(plan, TASKITER_PLAN_WORDS, items, TASKITER_MAX_ITEMS);
     taskiter_number m = taskiter_edges(plan, TASKITER_PLAN_WORDS, edges, TASKITER_EDGE_NUMBERS);
+    taskiter_number total = taskiter_total(plan, TASKITER_PLAN_WORDS);
     for (uint64_t a = 0; a < n.number; a++)
-        printf("item %" PRIu64 " %s %d\n", a, kinds[items[a] / 128 % 4], items[a] / 512);
-    printf("%" PRIu64 " edges\n", m.number);
-    return n.refusal == 0 && n.number == ITEMS && m.refusal == 0 && m.number == EDGES;
+        printf("item %" PRIu64 " %s %d\n", a, kinds[TASKITER_ITEM_KIND(items[a])],
+               TASKITER_ITEM_RANK(items[a]));
+    printf("%" PRIu64 " edges, %" PRIu64 " steps\n", m.number, total.number);
+    return n.refusal == 0 && n.number == ITEMS && m.refusal == 0 && m.number == EDGES &&
+           total.refusal == 0 && total.number == STEPS;
 }
 
 int main(void) {

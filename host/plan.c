@@ -63,7 +63,8 @@ int find_wants(const struct plan *plan, struct wants *wants) {
     static bool written[MAX_TASKS][MAX_REGIONS];
     int transfers = 0;
     find_written(plan, written);
-    memset(wants->ranks, 0, (size_t)plan->tasks * sizeof wants->ranks[0]);
+    memset(wants->before, 0, (size_t)plan->tasks * sizeof wants->before[0]);
+    memset(wants->behind, 0, (size_t)plan->tasks * sizeof wants->behind[0]);
     for (int j = 0; j < plan->tasks; j++) {
         const struct task *reader = &plan->task[j];
         for (int a = 0; a < reader->accesses; a++) {
@@ -72,8 +73,9 @@ int find_wants(const struct plan *plan, struct wants *wants) {
             if (i < 0 || plan->task[i].rank == reader->rank)
                 continue;
             uint16_t bit = (uint16_t)(1u << reader->rank);
-            transfers += (wants->ranks[i][region] & bit) == 0;
-            wants->ranks[i][region] |= bit;
+            uint16_t *before = &wants->before[i][region], *behind = &wants->behind[i][region];
+            transfers += ((*before | *behind) & bit) == 0;
+            *(j > i ? behind : before) |= bit;
         }
     }
     return transfers;

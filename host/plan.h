@@ -38,10 +38,11 @@ struct plan {
     struct task task[MAX_TASKS];
 };
 
-/* For each task and region, the other ranks that read the region with this task as the source: a
-   bit a rank. */
+/* For each task and region, the other ranks that read the region with this task as the source, a
+   bit a rank: those where such a read stands at or before the task in the body, and those where one
+   stands behind it. */
 struct wants {
-    uint16_t ranks[MAX_TASKS][MAX_REGIONS];
+    uint16_t before[MAX_TASKS][MAX_REGIONS], behind[MAX_TASKS][MAX_REGIONS];
 };
 
 static inline bool reads(struct access access) {

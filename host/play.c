@@ -28,18 +28,20 @@ static bool text_of_file(const char *file, char *text, size_t *length) {
     return true;
 }
 
-/* Asks for the items and edges, and finds whose word each item has: a send and its receive follow
-   their writer. */
+/* Asks for the items, the edges and the total, and finds whose word each item has: a send and its
+   receive follow their writer. */
 static bool take_graph(struct play *play) {
     taskiter_number n =
         taskiter_items(play->words, TASKITER_PLAN_WORDS, play->item, TASKITER_MAX_ITEMS);
     taskiter_number m =
         taskiter_edges(play->words, TASKITER_PLAN_WORDS, play->edge, TASKITER_EDGE_NUMBERS);
+    taskiter_number total = taskiter_total(play->words, TASKITER_PLAN_WORDS);
     play->items = (int)n.number;
     play->edges = (int)m.number;
+    play->total = (long)total.number;
     for (int a = 0, task = -1; a < play->items; a++)
-        play->task[a] = task += play->item[a] / 128 % 4 == 0;
-    return n.refusal == 0 && m.refusal == 0;
+        play->task[a] = task += TASKITER_ITEM_KIND(play->item[a]) == 0;
+    return n.refusal == 0 && m.refusal == 0 && total.refusal == 0;
 }
 
 bool play_begin(struct play *play, const char *file, struct rng *rng) {
@@ -66,11 +68,7 @@ bool play_begin(struct play *play, const char *file, struct rng *rng) {
 }
 
 int play_rank(const struct play *play, int item) {
-    return play->item[item] / 512;
-}
-
-long play_length(const struct play *play) {
-    return 2L * play->plan.passes * play->items;
+    return TASKITER_ITEM_RANK(play->item[item]);
 }
 
 /* Counts a step; one that is accepted has the word of its pass in the unrolled loop. */
@@ -98,6 +96,16 @@ uint64_t play_finish(struct play *play, int item) {
     return count_step(play, item, &play->finished[item], answer);
 }
 
+/* Two steps for each pass of each item, by the items' numbers. */
+static long own_steps(const struct play *play) {
+    long steps = 0;
+    for (int a = 0; a < play->items; a++) {
+        int own = play->plan.passes - TASKITER_ITEM_FEWER(play->item[a]);
+        steps += own > 0 ? 2L * own : 0;
+    }
+    return steps;
+}
+
 int play_end(struct play *play) {
     for (int g = 0; g < play->plan.regions; g++) {
         taskiter_answer answer =
@@ -107,7 +115,7 @@ int play_end(struct play *play) {
         printf("value %d %" PRIu64 "\n", g, answer.word);
     }
     loop_end(&play->loop);
-    play->differ += play->steps != play_length(play);
+    play->differ += play->steps != play->total || play->total != own_steps(play);
     printf("%ld differ from the unrolled loop\n", play->differ);
     return play->differ == 0 ? 0 : 1;
 }

@@ -7,8 +7,8 @@
 #include "draw.h"
 #include "loop.h"
 
-/* `task` is an item's task, or the writer whose word it carries. `differ` counts the words that are
-   not the unrolled loop's. */
+/* `task` is an item's task, or the writer whose word it carries. `total` is how many steps there
+   are from the opening to the end. `differ` counts the words that are not the unrolled loop's. */
 struct play {
     uint64_t words[TASKITER_PLAN_WORDS];
     TASKITER_COUNT_TYPE counts[TASKITER_COUNTS];
@@ -17,7 +17,7 @@ struct play {
     uint32_t edge[TASKITER_EDGE_NUMBERS];
     int items, edges;
     int task[TASKITER_MAX_ITEMS], started[TASKITER_MAX_ITEMS], finished[TASKITER_MAX_ITEMS];
-    long steps, refused, differ;
+    long total, steps, refused, differ;
     struct plan plan;
     struct loop loop;
 };
@@ -28,9 +28,6 @@ bool play_begin(struct play *play, const char *file, struct rng *rng);
 
 /* The rank of an item. */
 int play_rank(const struct play *play, int item);
-
-/* How many steps there are from its opening to its end. */
-long play_length(const struct play *play);
 
 /* Starts or finishes an item, and counts it as taken or refused. Answers the refusal, 0 if there is
    none. */

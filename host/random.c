@@ -12,7 +12,7 @@ int main(int argc, char **argv) {
     struct rng rng = rng_of(argc > 2 ? strtoull(argv[2], NULL, 10) : 1, 0);
     if (!play_begin(&play, argc > 1 ? argv[1] : NULL, &rng))
         return 1;
-    while (play.steps < play_length(&play)) {
+    while (play.steps < play.total) {
         int item = draw_below(&rng, play.items);
         if (draw_below(&rng, 2) == 0)
             play_start(&play, item);

@@ -24,9 +24,37 @@ enum size size_of(long number) {
     }
 }
 
+/* The traits that one word of a task gives a plan, a bit a trait. */
+static unsigned word_traits(const struct plan *plan, enum mode mode, int before, int behind) {
+    bool wrapped = (before & ~behind) != 0, inout = mode == INOUT;
+    return (unsigned)wrapped << WRAPPED | (unsigned)(wrapped && inout) << WRAPPED_INOUT |
+           (unsigned)(behind != 0 && inout) << FORWARD_INOUT |
+           (unsigned)((before & behind) != 0) << BOTH_SIDES |
+           (unsigned)(wrapped && plan->passes == 1) << WRAPPED_ONE_PASS |
+           (unsigned)(wrapped && plan->passes == 0) << WRAPPED_NO_PASS;
+}
+
+/* Counts the plan and the traits that it has. */
+static void count_traits(struct trial *trial, const struct plan *plan) {
+    static struct wants wants;
+    unsigned traits = 0;
+    find_wants(plan, &wants);
+    for (int i = 0; i < plan->tasks; i++)
+        for (int a = 0; a < plan->task[i].accesses; a++) {
+            struct access access = plan->task[i].access[a];
+            if (writes(access))
+                traits |= word_traits(plan, access.mode, wants.before[i][access.region],
+                                      wants.behind[i][access.region]);
+        }
+    trial->drawn++;
+    for (int t = 0; t < TRAITS; t++)
+        trial->with[t] += traits >> t & 1;
+}
+
 void put_drawn_plan(struct trial *trial, struct rng *rng) {
     static struct plan plan;
     draw_plan(rng, size_of(trial->number), &plan);
+    count_traits(trial, &plan);
     fill_memory(trial, rng);
     put_plan(trial, &plan);
 }
@@ -119,11 +147,10 @@ static void take_blind(struct trial *trial, struct rng *rng, struct order *order
         compare_word(trial, order, call, (int)asked, answer.word);
 }
 
-/* At the end the steps are two for each pass of each item, and the results are the final
-   numbers. */
+/* At the end the steps are as many as the total says, and the results are the final numbers. */
 static void compare_end(struct trial *trial, struct order *order) {
     const struct plan *plan = &trial->shape.plan;
-    long expected = 2L * plan->passes * trial->shape.graph.items;
+    long expected = (long)model_total(&trial->shape, PLAN_WORDS).word;
     if (order->steps != expected)
         differ(trial, "%ld steps were accepted, expected %ld", order->steps, expected);
     for (int g = 0; g < plan->regions; g++) {
@@ -145,6 +172,7 @@ static void play_plan(struct trial *trial, struct rng *rng, long most) {
     loop_begin(&order.loop, &trial->shape.plan);
     try_damage(trial, rng);
     try_call(trial, OPEN_CALL, draw_enough(rng), 0);
+    try_total(trial, draw_enough(rng).plan);
     while (!complete(&trial->shape, &trial->expected) && order.steps < most) {
         if (draw_below(rng, 100) < order.blind)
             take_blind(trial, rng, &order);
@@ -245,15 +273,46 @@ static void try_rule(struct trial *trial) {
             }
 }
 
+/* No item waits, in a pass that it has, for an instance that is not made. At distance 1 that cannot
+   be, since no item has two passes fewer than another. */
+static void try_made(struct trial *trial) {
+    const struct graph *graph = &trial->shape.graph;
+    for (int e = 0; e < graph->edges; e++) {
+        int from = graph->edge[e].from, to = graph->edge[e].to;
+        if (graph->edge[e].distance == 0 && graph->item[from].fewer > graph->item[to].fewer)
+            differ(trial, "item %d waits for %d, which has fewer passes", to, from);
+    }
+}
+
+/* A transfer is wrapped exactly if nobody reads its word in the pass that it is sent in. The total
+   is two steps for each pass of each item. */
+static void try_passes(struct trial *trial) {
+    const struct graph *graph = &trial->shape.graph;
+    uint64_t steps = 0, total = model_total(&trial->shape, PLAN_WORDS).word;
+    for (int a = 0; a < graph->items; a++) {
+        const struct item *item = &graph->item[a];
+        steps += 2 * (uint64_t)own_passes(&trial->shape.plan, item);
+        int receive = item->kind == SEND ? a + 1 : a;
+        bool wrapped = item->kind != TASK && !read_in_pass(graph, receive);
+        if (item->fewer != wrapped)
+            differ(trial, "item %d has %d passes fewer, by the places %d", a, item->fewer, wrapped);
+    }
+    if (steps != total)
+        differ(trial, "the items have %" PRIu64 " steps, the total is %" PRIu64, steps, total);
+}
+
 void graph_group(struct trial *trial, struct rng *rng) {
     put_drawn_plan(trial, rng);
     try_rule(trial);
+    try_passes(trial);
+    try_made(trial);
     if (size_of(trial->number) >= LARGEST && trial->shape.graph.items != MAX_ITEMS)
         differ(trial, "a largest plan has %d items", trial->shape.graph.items);
     try_items(trial, PLAN_WORDS + (size_t)draw_below(rng, GUARD),
               ITEM_ROOM + (size_t)draw_below(rng, GUARD));
     try_edges(trial, PLAN_WORDS + (size_t)draw_below(rng, GUARD),
               EDGE_ROOM + (size_t)draw_below(rng, GUARD));
+    try_total(trial, PLAN_WORDS + (size_t)draw_below(rng, GUARD));
 }
 
 static void *room(size_t size) {
@@ -310,14 +369,18 @@ static void read_bare(struct trial *trial, struct rng *rng, struct slices slices
     free(block);
 }
 
-/* Asks for items and edges in blocks of the least lengths. */
+/* Asks for the total, and for items and edges in blocks of the least lengths. */
 static void graph_bare(struct trial *trial, struct slices slices) {
     uint16_t *items = room(ITEM_ROOM * sizeof *items);
     uint32_t *edges = room(EDGE_ROOM * sizeof *edges);
     taskiter_number n = taskiter_items(slices.plan, PLAN_WORDS, items, ITEM_ROOM),
-                    m = taskiter_edges(slices.plan, PLAN_WORDS, edges, EDGE_ROOM);
+                    m = taskiter_edges(slices.plan, PLAN_WORDS, edges, EDGE_ROOM),
+                    total = taskiter_total(slices.plan, PLAN_WORDS);
     count_answer(trial, n.refusal);
     count_answer(trial, m.refusal);
+    count_answer(trial, total.refusal);
+    if (total.number != model_total(&trial->shape, PLAN_WORDS).word)
+        differ(trial, "the total is %" PRIu64, total.number);
     if (n.number != (uint64_t)trial->shape.graph.items ||
         m.number != (uint64_t)trial->shape.graph.edges)
         differ(trial, "there are %" PRIu64 " items and %" PRIu64 " edges", n.number, m.number);
@@ -347,6 +410,8 @@ static void try_short_bare(struct trial *trial, struct lengths lengths) {
     for (int call = 0; call < CALLS; call++)
         compare_answer(trial, (enum call)call, 0, (struct answer){11, 0},
                        runtime_call((enum call)call, slices, lengths, 0));
+    if (lengths.plan < PLAN_WORDS && taskiter_total(slices.plan, lengths.plan).refusal != 11)
+        differ(trial, "a total is answered for a plan that is too short");
     free_slices(slices);
 }
 
@@ -362,6 +427,13 @@ static void try_null_long(struct trial *trial, struct slices s) {
         taskiter_play(s.plan, PLAN_WORDS, s.counts, COUNTS, s.values, VALUES, calls, 1, NULL, 2) !=
             11)
         differ(trial, "a list or answers that are NULL and have elements are not refused with 11");
+}
+
+/* The total of a plan that is NULL, of no words or of words that it is said to have: 11. */
+static void try_null_total(struct trial *trial) {
+    taskiter_number n = taskiter_total(NULL, 0), m = taskiter_total(NULL, PLAN_WORDS);
+    if (n.refusal != 11 || n.number != 0 || m.refusal != 11 || m.number != 0)
+        differ(trial, "a total is answered for a plan that is NULL");
 }
 
 /* Slices that are NULL, each alone and all: 11. */
@@ -389,6 +461,7 @@ static void try_null(struct trial *trial, struct slices all) {
         taskiter_write(all.plan, PLAN_WORDS - 1, NULL, 0).refusal != 11 ||
         taskiter_write(all.plan, PLAN_WORDS, NULL, 0).refusal != 19)
         differ(trial, "writing is accepted or refused otherwise with a slice that is NULL");
+    try_null_total(trial);
     try_null_long(trial, all);
 }
 

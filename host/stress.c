@@ -1,16 +1,20 @@
 /* The test program that the paper asks for ("Tying down the contracts", item 4): plays random plans
    in random orders against the unrolled loop, runs the cases that the paper lists without a star,
    and compares every call with a model made from the paper alone: the answer, the items, the edges,
-   the written text, and every byte of the lent slices and of the guards around them.
+   the total of steps, the written text, and every byte of the lent slices and of the guards around
+   them.
 
    stress [SEED [PLANS]] prints a line a group, and one for all: its plans and calls, how many were
-   accepted, and how often each refusal was given. Exit status 0 where nothing differs and each
-   refusal was met, 1 where not, and where the runtime has another version than its header.
+   accepted, and how often each refusal was given. The last line says how many of the random plans
+   have wrapped transfers, and such as are almost wrapped. Exit status 0 where nothing differs, each
+   refusal was met, and one random plan in 64 has transfers of each of these kinds; 1 where not, and
+   where the runtime has another version than its header.
 
-   stress --control answer|word|edge|line|reply|byte [SEED [PLANS]] is a run in which one answer,
-   one word of the lent state after a call, one edge, one line number, one word of a list's answers
-   or one byte of a written text is changed before it is compared. It has to end with the difference
-   reported and status 1. The status is 2 where it is not reported. */
+   stress --control answer|word|edge|line|reply|byte|total|item [SEED [PLANS]] is a run in which one
+   answer, one word of the lent state after a call, one edge, one line number, one word of a list's
+   answers, one byte of a written text, one total of steps or one item's number is changed before it
+   is compared. It has to end with the difference reported and status 1. The status is 2 where it is
+   not reported. */
 #include <inttypes.h>
 #include <stdio.h>
 #include <stdlib.h>
@@ -19,14 +23,19 @@
 #include "../include/taskiter.h"
 #include "groups.h"
 
-enum { DEFAULT_PLANS = 1000, MOST_PLANS = 1000000 };
+enum { DEFAULT_PLANS = 1000, MOST_PLANS = 1000000, RARE = 64 };
+
+static const char *const trait_names[TRAITS] = {
+    "wrapped",    "wrapped of an inout", "forward of an inout",
+    "both sides", "wrapped in one pass", "wrapped in no pass"};
 
 /* What the groups have in common: the seed, the number of plans of each and the control; and how
-   many there were, and how their calls were answered. */
+   many there were, how their calls were answered, and which traits the random plans have. */
 struct count {
     uint64_t seed, groups;
     struct control control;
     long each, plans, calls, texts, answered[LAST_REFUSAL + 1];
+    long drawn, with[TRAITS];
 };
 
 static void print_line(const char *name, long plans, long calls, long texts, const long *answered) {
@@ -60,6 +69,16 @@ static void run_group(const char *name, void (*group)(struct trial *, struct rng
     all->texts += trial.texts;
     for (int r = 0; r <= LAST_REFUSAL; r++)
         all->answered[r] += trial.answered[r];
+    all->drawn += trial.drawn;
+    for (int t = 0; t < TRAITS; t++)
+        all->with[t] += trial.with[t];
+}
+
+static void print_traits(const struct count *all) {
+    printf("%-8s %ld plans; with such transfers:", "random", all->drawn);
+    for (int t = 0; t < TRAITS; t++)
+        printf("%s %s: %ld", t > 0 ? "," : "", trait_names[t], all->with[t]);
+    printf("\n");
 }
 
 static void run_groups(struct count *all) {
@@ -73,14 +92,15 @@ static void run_groups(struct count *all) {
     run_group("short", short_group, all->each, all);
     run_group("bare", bare_group, all->each, all);
     print_line("all", all->plans, all->calls, all->texts, all->answered);
+    print_traits(all);
 }
 
 /* Prepares the control that an argument names. In each plan there are at least so many chances for
    the change; one of them is drawn. Answers false where it names none. */
 static bool take_control(struct count *all, const char *name) {
-    static const char *const names[CHANGES] = {"",     "answer", "word", "edge",
-                                               "line", "reply",  "byte"};
-    static const int chances[CHANGES] = {0, 150, 150, 1, 16, 16, 8};
+    static const char *const names[CHANGES] = {"",      "answer", "word",  "edge", "line",
+                                               "reply", "byte",   "total", "item"};
+    static const int chances[CHANGES] = {0, 150, 150, 1, 16, 16, 8, 2, 1};
     struct control *control = &all->control;
     for (int change = NO_CHANGE + 1; change < CHANGES; change++)
         if (strcmp(name, names[change]) == 0) {
@@ -100,9 +120,14 @@ static bool same_version(void) {
     return version == TASKITER_VERSION;
 }
 
-/* Whether each refusal was met. */
+/* Whether each refusal was met, and each trait in one random plan of RARE. */
 static bool all_met(const struct count *all) {
     bool met = true;
+    for (int t = 0; t < TRAITS; t++)
+        if (all->with[t] * RARE < all->drawn) {
+            printf("too few random plans have transfers of this kind: %s\n", trait_names[t]);
+            met = false;
+        }
     for (int r = 1; r <= LAST_REFUSAL; r++)
         if (all->answered[r] == 0) {
             printf("refusal %d was not met\n", r);
@@ -120,8 +145,8 @@ int main(int argc, char **argv) {
     if (argc > first + 1)
         all.each = strtol(argv[first + 1], NULL, 10);
     if (all.each < 1 || all.each > MOST_PLANS || (controlled && !take_control(&all, argv[2]))) {
-        fprintf(stderr,
-                "usage: stress [--control answer|word|edge|line|reply|byte] [SEED [PLANS]]\n");
+        fprintf(stderr, "usage: stress [--control answer|word|edge|line|reply|byte|total|item] "
+                        "[SEED [PLANS]]\n");
         return 2;
     }
     if (!same_version())

@@ -19,8 +19,9 @@ const struct lengths least = {PLAN_WORDS, COUNTS, VALUES};
 
 static const char *const call_names[CALLS] = {"open", "start", "finish", "result"};
 
-static const char *const change_names[CHANGES] = {"nothing", "an answer", "a word", "an edge",
-                                                  "a line",  "a reply",   "a byte"};
+static const char *const change_names[CHANGES] = {"nothing", "an answer", "a word",
+                                                  "an edge", "a line",    "a reply",
+                                                  "a byte",  "a total",   "an item"};
 
 void differ(const struct trial *trial, const char *form, ...) {
     va_list rest;
@@ -79,6 +80,15 @@ static void change_edge(struct trial *trial, uint32_t *edges, uint64_t number) {
         return;
     uint32_t *at = &edges[draw_below(&control->rng, 3 * (int)number)];
     *at = (uint32_t)flipped(control, *at, 32);
+}
+
+/* Changes a bit of the number of an item. */
+static void change_item(struct trial *trial, uint16_t *items, uint64_t number) {
+    struct control *control = trial->control;
+    if (number == 0 || !makes_change(trial, CHANGED_ITEM))
+        return;
+    uint16_t *at = &items[draw_below(&control->rng, (int)number)];
+    *at = (uint16_t)flipped(control, *at, 16);
 }
 
 /* Changes a bit of one answer of a list, where it has calls. */
@@ -275,10 +285,12 @@ void try_items(struct trial *trial, size_t plan_length, size_t items_length) {
     memcpy(expected, lent, sizeof lent);
     for (int a = 0; refusal == 0 && a < graph->items; a++) {
         const struct item *item = &graph->item[a];
-        expected[GUARD + a] = (uint16_t)(item->rank * 512 + (int)item->kind * 128 +
-                                         (item->kind == TASK ? item->task : item->region));
+        expected[GUARD + a] =
+            (uint16_t)(item->fewer * 8192 + item->rank * 512 + (int)item->kind * 128 +
+                       (item->kind == TASK ? item->task : item->region));
     }
     taskiter_number got = taskiter_items(trial->lent.plan, plan_length, lent + GUARD, items_length);
+    change_item(trial, lent + GUARD, got.number);
     compare_number(trial, "items", refusal, refusal == 0 ? (uint64_t)graph->items : 0, got);
     compare_bytes(trial, "the items", expected, lent, sizeof lent);
 }
@@ -298,4 +310,12 @@ void try_edges(struct trial *trial, size_t plan_length, size_t edges_length) {
     change_edge(trial, lent + GUARD, got.number);
     compare_number(trial, "edges", refusal, refusal == 0 ? (uint64_t)graph->edges : 0, got);
     compare_bytes(trial, "the edges", expected, lent, sizeof lent);
+}
+
+void try_total(struct trial *trial, size_t plan_length) {
+    struct answer answer = model_total(&trial->shape, plan_length);
+    taskiter_number got = taskiter_total(trial->lent.plan, plan_length);
+    if (got.refusal == 0 && makes_change(trial, CHANGED_TOTAL))
+        got.number = flipped(trial->control, got.number, 64);
+    compare_number(trial, "total", answer.refusal, answer.word, got);
 }

@@ -12,8 +12,8 @@
 enum { LAST_REFUSAL = 19, ITEM_ROOM = MAX_ITEMS, EDGE_ROOM = 3 * MAX_EDGES, LIST_ROOM = 64 };
 
 /* What a control run changes once, between the runtime and the comparison: an answer, a word of the
-   lent state after a call, an edge, the line that reading answers, a word of a list's answers, or a
-   byte of a written text. */
+   lent state after a call, an edge, the line that reading answers, a word of a list's answers, a
+   byte of a written text, a total of steps, or an item's number. */
 enum change {
     NO_CHANGE,
     CHANGED_ANSWER,
@@ -22,7 +22,22 @@ enum change {
     CHANGED_LINE,
     CHANGED_REPLY,
     CHANGED_BYTE,
+    CHANGED_TOTAL,
+    CHANGED_ITEM,
     CHANGES
+};
+
+/* What random plans must have often: a wrapped transfer; one of a task that reads the region that
+   it writes; a forward transfer of such a task; a transfer that serves a read before its writer and
+   one behind it; a wrapped transfer in a plan of one pass, and of none. */
+enum trait {
+    WRAPPED,
+    WRAPPED_INOUT,
+    FORWARD_INOUT,
+    BOTH_SIDES,
+    WRAPPED_ONE_PASS,
+    WRAPPED_NO_PASS,
+    TRAITS
 };
 
 /* The change is made when so many chances for it have passed. */
@@ -33,13 +48,15 @@ struct control {
     bool made;
 };
 
-/* One group of calls: where it stands, how its calls were answered, and the memory lent beside the
-   memory expected. The shape is that of the plan's words, which are the same in both. */
+/* One group of calls: where it stands, how its calls were answered, how many plans were drawn and
+   how many have which trait, and the memory lent beside the memory expected. The shape is that of
+   the plan's words, which are the same in both. */
 struct trial {
     const char *group;
     struct control *control;
     uint64_t seed;
     long number, calls, texts, answered[LAST_REFUSAL + 1];
+    long drawn, with[TRAITS];
     struct memory lent, expected;
     struct shape shape;
 };
@@ -105,5 +122,8 @@ struct written try_write(struct trial *trial, size_t plan_length, size_t text_le
 /* Asks for the items and for the edges, into slices of their own that are compared whole. */
 void try_items(struct trial *trial, size_t plan_length, size_t items_length);
 void try_edges(struct trial *trial, size_t plan_length, size_t edges_length);
+
+/* Asks for the total of steps. */
+void try_total(struct trial *trial, size_t plan_length);
 
 #endif

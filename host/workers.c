@@ -88,7 +88,7 @@ static void work(int w) {
    a random one on. */
 static long run_ticks(void) {
     long ticks = 0, steps = -1;
-    for (; play.steps < play_length(&play); ticks++) {
+    for (; play.steps < play.total; ticks++) {
         if (running == 0 && play.steps == steps) {
             printf("no item runs, and none can be started\n");
             exit(1);

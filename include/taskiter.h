@@ -6,8 +6,14 @@
    which item waits for which, within a pass of the loop and from one pass to the next. The host
    calls taskiter_read once for each plan, taskiter_open once for each run, and then taskiter_start
    and taskiter_finish in whatever order it likes, pass after pass, until every item has finished
-   every pass; then taskiter_result gives each region's number. Whatever the order of the calls,
+   its passes; then taskiter_result gives each region's number. Whatever the order of the calls,
    every word answered is the one of the loop unrolled and run in order.
+
+   An item has the passes of the plan, with one exception. A transfer brings a task's word to
+   another rank, and serves the reads there that take that word. It is wrapped when each of them
+   stands at or before the writer in the body: the word is read in the next pass alone. In the last
+   pass it is not made. So its send and its receive have one pass fewer than the plan, and none
+   where the plan has none.
 
    The runtime computes: a start computes the word by the task's kernel, a finish writes it. The
    host chooses the order. Each rank has a copy of each region, each transfer a slot between its
@@ -61,7 +67,7 @@ extern "C" {
    names. So a host asks once, before its other calls, whether taskiter_version answers
    TASKITER_VERSION: then the runtime that it is linked with has the version of the header that it
    was compiled with. CHANGELOG.md says what each version changes. */
-#define TASKITER_VERSION 1
+#define TASKITER_VERSION 2
 uint64_t taskiter_version(void);
 
 /* A text has at most so many bytes. It has no NUL at its end: one that is counted is a line not in
@@ -133,18 +139,33 @@ taskiter_number taskiter_write(const uint64_t *plan, size_t plan_length, uint8_t
    where it belongs and what it may free.
 
    taskiter_items puts a number n for each item into a slice of at least TASKITER_MAX_ITEMS, and
-   answers how many items there are. The item's rank is n / 512, its kind n / 128 % 4: 0 a task, 1 a
-   send, 2 a receive. n % 128 is the task's number, or the region that is sent. Items are numbered
-   from 0: each task, then its sends, each with its receive right behind it.
+   answers how many items there are. The macros below take n apart. The kind is 0 for a task, 1 for
+   a send, 2 for a receive; the number is the task's, or the region that is sent.
+   TASKITER_ITEM_FEWER(n) is 1 for the two items of a wrapped transfer, else 0, whatever the passes:
+   the item has so many passes fewer than the plan, and none where the plan has none. Items are
+   numbered from 0: each task, then its sends, each with its receive right behind it.
    taskiter_edges puts from, to and distance of each edge into a slice of at least
    TASKITER_EDGE_NUMBERS, in that order, and answers how many edges there are. An item waits for the
    source of each edge into it: at distance 0 in the same pass, at distance 1 in the pass before.
-   What lies behind the last number is left as it is. Refused for 11 or 12, with number 0 and
+   The edges do not depend on the passes: a wait for a pass that the source does not have counts as
+   met. What lies behind the last number is left as it is. Refused for 11 or 12, with number 0 and
    nothing changed. */
 taskiter_number taskiter_items(const uint64_t *plan, size_t plan_length, uint16_t *items,
                                size_t items_length);
 taskiter_number taskiter_edges(const uint64_t *plan, size_t plan_length, uint32_t *edges,
                                size_t edges_length);
+
+/* An item's number n is 8192 * fewer + 512 * rank + 128 * kind + number. */
+#define TASKITER_ITEM_FEWER(n) ((n) / 8192)
+#define TASKITER_ITEM_RANK(n) ((n) / 512 % 16)
+#define TASKITER_ITEM_KIND(n) ((n) / 128 % 4)
+#define TASKITER_ITEM_NUMBER(n) ((n) % 128)
+
+/* The number of accepted steps from an opening to the end, two for each pass of each item:
+   2 * (passes * items - 2 * wrapped transfers), and 0 where the plan has no pass. A host that
+   counts down from it knows the end without asking for a result. Refused for 11 or 12, with number
+   0. Changes nothing. */
+taskiter_number taskiter_total(const uint64_t *plan, size_t plan_length);
 
 /* Opens a state for the plan: every copy gets its starting value, and counts, slots and held words
    become 0. What the plan does not use of the state is left as it is. Answers the refusal, 11 or 12
@@ -154,7 +175,9 @@ uint64_t taskiter_open(const uint64_t *plan, size_t plan_length, TASKITER_COUNT_
 
 /* Starts the next pass of an item: it reads its places, and answers the word that it computes,
    which it holds for the finish. A send or receive answers the word that it carries. Refused for 11
-   to 16. After 16 the same start is accepted once those that it waits for have finished. */
+   to 16. 14 says that the item has finished its own passes: those of a wrapped transfer have none
+   in the last pass of the plan. After 16 the same start is accepted once those that it waits for
+   have finished. */
 taskiter_answer taskiter_start(const uint64_t *plan, size_t plan_length,
                                TASKITER_COUNT_TYPE *counts, size_t counts_length, uint64_t *values,
                                size_t values_length, uint64_t item);
@@ -165,7 +188,7 @@ taskiter_answer taskiter_finish(const uint64_t *plan, size_t plan_length,
                                 TASKITER_COUNT_TYPE *counts, size_t counts_length, uint64_t *values,
                                 size_t values_length, uint64_t item);
 
-/* The result of a region, once every item has finished every pass; of a region that no task writes,
+/* The result of a region, once every item has finished its passes; of a region that no task writes,
    its starting value. Refused for 11, 12, 13 or 18. */
 taskiter_answer taskiter_result(const uint64_t *plan, size_t plan_length,
                                 const TASKITER_COUNT_TYPE *counts, size_t counts_length,
@@ -230,6 +253,13 @@ static inline taskiter_number taskiter_edges_lent(const uint64_t *plan, size_t p
     return taskiter_edges(plan, plan_length, edges, edges_length);
 }
 
+static inline taskiter_number taskiter_total_lent(const uint64_t *plan, size_t plan_length) {
+    taskiter_number refused = {11, 0};
+    if (plan == NULL)
+        return refused;
+    return taskiter_total(plan, plan_length);
+}
+
 static inline uint64_t taskiter_open_lent(const uint64_t *plan, size_t plan_length,
                                           TASKITER_COUNT_TYPE *counts, size_t counts_length,
                                           uint64_t *values, size_t values_length) {
@@ -287,6 +317,7 @@ static inline uint64_t taskiter_play_lent(const uint64_t *plan, size_t plan_leng
 #define taskiter_write(...) taskiter_write_lent(__VA_ARGS__)
 #define taskiter_items(...) taskiter_items_lent(__VA_ARGS__)
 #define taskiter_edges(...) taskiter_edges_lent(__VA_ARGS__)
+#define taskiter_total(...) taskiter_total_lent(__VA_ARGS__)
 #define taskiter_open(...) taskiter_open_lent(__VA_ARGS__)
 #define taskiter_start(...) taskiter_start_lent(__VA_ARGS__)
 #define taskiter_finish(...) taskiter_finish_lent(__VA_ARGS__)
