@@ -1,7 +1,7 @@
 // An item's number in the item table, its code (specs/Code.antt).
 ghost use Prim.Native.Nat.{_<_, _≤_};
 ghost use mathlib.Core.Path.{_≡_};
-ghost use Rattle.plan.specs.Code.{codeFrom, codeFewer, codeRank, codeKind, codeSubject};
+ghost use Rattle.plan.specs.Code.{codeFrom, codeRank, codeKind, codeSubject};
 
 // The kinds of items.
 pub const TASK: u64 = 0;
@@ -16,13 +16,6 @@ pub fn item_code(fewer: u64, rank: u64, kind: u64, subject: u64) -> u64
     ensures { λ r. ⌜ (r ≡ codeFrom fewer rank kind subject) × (r < 16384) ⌝ }
 {
     8192 * fewer + (512 * rank + (128 * kind + subject))
-}
-
-// 1 for an item of a wrapped transfer, else 0.
-pub fn item_fewer(code: u64) -> u64
-    ensures { λ r. ⌜ r ≡ codeFewer code ⌝ }
-{
-    code / 8192
 }
 
 // The rank that an item works on.
