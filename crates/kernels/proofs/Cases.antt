@@ -1,10 +1,12 @@
--- The paper's cases D, E, F and G ("Tried by hand"), and both sides of each limit on the number of
--- reads, computed.
+-- The paper's cases D, E, F and G ("Tried by hand"), E as card 3 has it, the sums that the card
+-- names, and both sides of each limit on the number of reads, computed.
 use Prim.Native.Nat.{ℕ, _-_, _^_}
-use mathlib.Core.Path.{_≡_, refl}
+use mathlib.Core.Path.{_≡_, refl, _∙_, ap}
 use mathlib.Core.Bool.{true, false}
-use mathlib.Core.List.{[], _∷_}
-use Rattle.kernels.specs.Kernels.{total, largest, kernelWord, suits}
+use mathlib.Core.List.{List, [], _∷_}
+use lib.ListN.{length}
+use Rattle.kernels.specs.Kernels.{total, largest, quarter, kernelWord, suits}
+use Rattle.kernels.proofs.Mean.{kernelWord-mean}
 
 -- D: kernel 3 on four times 2^64 - 1
 pub mean-widest : (c : ℕ) → kernelWord 3 c ((2 ^ 64 - 1) ∷ (2 ^ 64 - 1) ∷ (2 ^ 64 - 1) ∷ (2 ^ 64 - 1) ∷ []) ≡ 2 ^ 64 - 1
@@ -12,9 +14,19 @@ unfolding kernelWord
 mean-widest c = refl
 
 -- E: kernel 3 on 1, 1, 1, 0
-pub mean-rounded : (c : ℕ) → kernelWord 3 c (1 ∷ 1 ∷ 1 ∷ 0 ∷ []) ≡ 0
+pub mean-rounded : (c : ℕ) → kernelWord 3 c (1 ∷ 1 ∷ 1 ∷ 0 ∷ []) ≡ 1
 unfolding kernelWord
 mean-rounded c = refl
+
+-- card 3: four reads with the sum 3, 6, 10
+pub mean-of-3 : (c : ℕ) (reads : List ℕ) → length reads ≡ 4 → total reads ≡ 3 → kernelWord 3 c reads ≡ 1
+mean-of-3 c reads h e = kernelWord-mean c reads h ∙ ap quarter e
+
+pub mean-of-6 : (c : ℕ) (reads : List ℕ) → length reads ≡ 4 → total reads ≡ 6 → kernelWord 3 c reads ≡ 2
+mean-of-6 c reads h e = kernelWord-mean c reads h ∙ ap quarter e
+
+pub mean-of-10 : (c : ℕ) (reads : List ℕ) → length reads ≡ 4 → total reads ≡ 10 → kernelWord 3 c reads ≡ 2
+mean-of-10 c reads h e = kernelWord-mean c reads h ∙ ap quarter e
 
 -- F: kernel 1, read 2^64 - 1, c 1
 pub sum-wraps : kernelWord 1 1 ((2 ^ 64 - 1) ∷ []) ≡ 0

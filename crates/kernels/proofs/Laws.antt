@@ -1,6 +1,6 @@
 -- Laws of the kernels. Those that end in -none, -more and -done are a loop's over the reads: before
 -- its first turn, over a turn, and after its last.
-use Prim.Native.Nat.{ℕ, zero, suc, _+_, _/_, _%_, _^_, _≤_, _<_, max}
+use Prim.Native.Nat.{ℕ, zero, suc, _+_, _%_, _^_, _≤_, _<_, max}
 use mathlib.Core.Path.{_≡_, refl, sym, ap, _∙_}
 use mathlib.Core.Bool.{true, false}
 use mathlib.Core.List.{List, [], _∷_, _++_}
@@ -102,11 +102,6 @@ kernelWord-other k c xs h = ap (λ x. computes x c xs) (kernelBy-other k h)
 pub kernelWord-difference : (c : ℕ) (xs : List ℕ) → readAt xs 1 ≤ 2 ^ 64 → (kernelWord 2 c xs + readAt xs 1) % 2 ^ 64 ≡ (readAt xs 0 + c) % 2 ^ 64
 unfolding kernelWord
 kernelWord-difference c xs h = omega arith
-
--- where there are four reads, the word of kernel 3 is a quarter of the sum of all
-pub kernelWord-mean : (c x y z w : ℕ) → kernelWord 3 c (x ∷ y ∷ z ∷ w ∷ []) ≡ total (x ∷ y ∷ z ∷ w ∷ []) / 4
-unfolding kernelWord total
-kernelWord-mean c x y z w = omega arith
 
 -- from words comes a word
 pub kernelWord-below : (k c : ℕ) (xs : List ℕ) → c < 2 ^ 64 → ((i : ℕ) → getD xs i 0 < 2 ^ 64) → kernelWord k c xs < 2 ^ 64

@@ -1,9 +1,12 @@
--- The word that a task computes, and how many reads its kernel permits (paper 01, "Kernels").
-use Prim.Native.Nat.{ℕ, _+_, _-_, _/_, _%_, _^_, max}
+-- The word that a task computes, and how many reads its kernel permits (paper 01, "Kernels"; kernel 3
+-- by card 3).
+use Prim.Native.Nat.{ℕ, _+_, _-_, _*_, _/_, _%_, _^_, _≤_, max}
+use mathlib.Core.Path.{_≡_}
 use mathlib.Core.Bool.{Bool, true, false, cond}
 use mathlib.Core.List.{List, [], _∷_}
 use lib.Dec.{eqb, leb}
-use lib.ListN.{getD}
+use lib.ListN.{length, getD}
+use Rattle.finite.specs.Below.{sumBelow}
 use Rattle.kernels.specs.declared.Computation.{Computation}
 use Rattle.kernels.specs.declared.Computation.the-variants.{Constant, Sum, Difference, Mean, Largest}
 use Rattle.kernels.specs.declared.Permitted.{Permitted}
@@ -33,9 +36,15 @@ sumWord c reads = (c + total reads) % 2 ^ 64
 abbrev pub differenceWord : ℕ → List ℕ → ℕ
 differenceWord c reads = (readAt reads 0 + (2 ^ 64 - readAt reads 1) + c) % 2 ^ 64
 
--- kernel 3: the exact sum of the four reads, divided by 4, rounded down
+-- a quarter of s to the nearest whole number, the even one where two are equally near: before the
+-- division 1 is added where s / 4 is even, so that a half goes down, and 2 where it is odd, so that
+-- it goes up
+abbrev pub quarter : ℕ → ℕ
+quarter s = (s + 1 + s / 4 % 2) / 4
+
+-- kernel 3: a quarter of the exact sum of the four reads
 abbrev pub meanWord : List ℕ → ℕ
-meanWord reads = (readAt reads 0 + readAt reads 1 + readAt reads 2 + readAt reads 3) / 4
+meanWord reads = quarter (readAt reads 0 + readAt reads 1 + readAt reads 2 + readAt reads 3)
 
 -- what number k is as a kernel: what it computes, and how many reads it permits; no other number
 -- is a kernel
@@ -88,3 +97,24 @@ suits k n = permits (kernelBy k) n
 -- k is the number of a kernel
 unfoldable pub isKernel : ℕ → Bool
 isKernel k = isKnown (kernelBy k)
+
+-- Kernel 3 in the words of card 3 (proved in proofs/Mean.antt).
+
+-- how far apart two numbers are
+abbrev pub distance : ℕ → ℕ → ℕ
+distance m n = (m - n) + (n - m)
+
+-- m is the whole number nearest to a quarter of s, the even one where two are equally near: 4 m
+-- lies within 2 of s, and where it differs by exactly 2, m is even
+pub record Nearest (s m : ℕ) : Type 0 where
+  pub within : distance (4 * m) s ≤ 2
+  pub even : distance (4 * m) s ≡ 2 → m % 2 ≡ 0
+
+pub record MeanLaws : Type 0 where
+  -- the word of kernel 3 is the number nearest to a quarter of the sum of its four reads
+  pub nearest : (c : ℕ) (reads : List ℕ) → length reads ≡ 4 → Nearest (total reads) (kernelWord 3 c reads)
+  -- a sum has no other such number, and a larger sum has no lower one
+  pub only : (s m n : ℕ) → Nearest s m → Nearest s n → m ≡ n
+  pub rises : (s u m n : ℕ) → s ≤ u → Nearest s m → Nearest u n → m ≤ n
+  -- over eight sums in a row rounding takes as much as it gives
+  pub balanced : (s : ℕ) → 4 * sumBelow 8 (λ k. quarter (s + k)) ≡ sumBelow 8 (λ k. s + k)

@@ -1,8 +1,8 @@
 // The word that a task computes from the words it reads, and the number of reads that its kernel
 // permits. Which words are read, and what becomes of the computed one, is no matter of this crate.
 ghost use mathlib.Core.Path.{_≡_};
-ghost use Prim.Native.Nat.{_+_, _-_, _/_, _%_, _^_, max};
-ghost use Rattle.kernels.specs.Kernels.{readAt, sumWord, differenceWord, meanWord, largest, kernelBy, wordBy, allowed, kernelWord, suits, isKernel};
+ghost use Prim.Native.Nat.{_+_, _-_, _*_, _/_, _%_, _^_, _≤_, max};
+ghost use Rattle.kernels.specs.Kernels.{readAt, sumWord, differenceWord, quarter, meanWord, largest, kernelBy, wordBy, allowed, kernelWord, suits, isKernel};
 
 // The read at place i; 0 where there is none.
 fn read_at(reads: &[u64], i: usize) -> u64
@@ -38,19 +38,27 @@ fn difference_word(c: u64, reads: &[u64]) -> u64
     difference(read_at(reads, 0), read_at(reads, 1), c)
 }
 
-// A quarter of the exact sum of four words, rounded down. The sum itself may not fit in a word: the
-// quarters and the remainders are summed apart.
-fn quarter(a: u64, b: u64, c: u64, d: u64) -> u64
-    ensures { λ r. ⌜ r ≡ (a + b + c + d) / 4 ⌝ }
+// A quarter of 4 × quarters + left, to the nearest, a half to the even.
+fn nearest(quarters: u64, left: u64) -> u64
+    requires { ⌜ (quarters ≤ 2 ^ 64 - 4) × (left ≤ 12) ⌝ }
+    ensures { λ r. ⌜ r ≡ quarter (4 * quarters + left) ⌝ }
 {
-    a / 4 + b / 4 + c / 4 + d / 4 + (a % 4 + b % 4 + c % 4 + d % 4) / 4
+    quarters + (left + 1 + (quarters + left / 4) % 2) / 4
 }
 
-// Kernel 3: the exact sum of the first four reads, divided by 4, rounded down.
+// A quarter of the exact sum of four words, to the nearest. The sum itself may not fit in a word:
+// the quarters and what is left of each word are summed apart.
+fn mean_of(a: u64, b: u64, c: u64, d: u64) -> u64
+    ensures { λ r. ⌜ r ≡ quarter (a + b + c + d) ⌝ }
+{
+    nearest(a / 4 + b / 4 + c / 4 + d / 4, a % 4 + b % 4 + c % 4 + d % 4)
+}
+
+// Kernel 3: a quarter of the exact sum of the first four reads, to the nearest.
 fn mean_word(reads: &[u64]) -> u64
     ensures { λ r. ⌜ r ≡ meanWord (now (reads .entry)) ⌝ }
 {
-    quarter(
+    mean_of(
         read_at(reads, 0),
         read_at(reads, 1),
         read_at(reads, 2),

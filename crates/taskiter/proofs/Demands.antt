@@ -14,6 +14,7 @@ use Rattle.body.specs.Items.{totalSteps}
 use Rattle.body.proofs.Theorems.{laws as body-laws}
 use Rattle.plan.specs.Limits.{maxBytes, maxTransfers, maxWord}
 use Rattle.plan.specs.Layout.{planWords, bodyOf}
+use Rattle.kernels.proofs.Mean.{mean-laws}
 use Rattle.text.specs.Records.{split}
 use Rattle.reading.specs.Plan.{Plan, wordsOf}
 use Rattle.reading.specs.Reading.{Reading, accepted as readTo, refused as notRead, readOf}
@@ -191,7 +192,7 @@ opened-order text w behind counts values e long-counts long-values =
         (z, λ l. (λ h. order l .ends .0 h ∙ sym is, λ h. order l .ends .1 (h ∙ is)))
 
 demand-3 : Demand3
-demand-3 = record { any-order = opened-order; word-of = call-word; call-of = word-call; in-words = in-words }
+demand-3 = record { any-order = opened-order; means = mean-laws; word-of = call-word; call-of = word-call; in-words = in-words }
 
 pub demands : Demands
 demands = record { demand-1 = demand-1; demand-2 = demand-2; demand-3 = demand-3 }

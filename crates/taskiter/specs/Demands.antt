@@ -11,6 +11,7 @@ use mathlib.Core.List.{List, [], _∷_, _++_, List·Memᴰ as In}
 use lib.Dec.{leb}
 use lib.ListN.{length, getD, set, take, drop, replicate}
 use Rattle.finite.specs.Lists.{mem}
+use Rattle.kernels.specs.Kernels.{MeanLaws}
 use Rattle.unroll.specs.System.{Accesses}
 use Rattle.unroll.specs.Sequential.{wordOn}
 use Rattle.unroll.specs.Machine.{State, CanFinish}
@@ -309,6 +310,8 @@ pub record Opened (text w plan counts values : List ℕ) : Type 0 where
 pub record Demand3 : Type 0 where
   pub any-order : (text w behind counts values : List ℕ) → readOf text ≡ readTo w → countWords ≤ length counts → valueWords ≤ length values →
       Opened text w (w ++ behind) counts values
+  -- kernel 3, in the loop as in the runtime, gives the mean to the nearest
+  pub means : MeanLaws
   -- words and calls are one to one, and 64-bit words say every list of calls with numbers below `callNumbers`: no such list is out of reach
   pub word-of : (c : Call) → callOf (wordOf c) ≡ c
   pub call-of : (word : ℕ) → wordOf (callOf word) ≡ word

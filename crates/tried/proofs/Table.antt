@@ -20,7 +20,7 @@ use Rattle.edges.proofs.Decided.{edge-distance-is}
 use Rattle.finite.proofs.Members.{at-in}
 use Rattle.plan.specs.Layout.{planWords, bodyOf}
 use Rattle.reading.specs.Reading.{readOf, accepted as readTo}
-use Rattle.kernels.proofs.Cases.{mean-widest, mean-rounded, sum-wraps, difference-wraps}
+use Rattle.kernels.proofs.Cases.{mean-widest, mean-rounded, mean-of-3, mean-of-6, mean-of-10, sum-wraps, difference-wraps}
 use Rattle.graph.specs.Answers.{planBody}
 use Rattle.tried.proofs.Cases.{two-ranks-edges, two-readers-edges}
 use Rattle.steps.specs.State.{stateOf, firstFinished}
@@ -219,6 +219,9 @@ module _ (D : Demands) where
         case-c = case-c;
         case-d = mean-widest;
         case-e = mean-rounded;
+        mean-of-3 = mean-of-3;
+        mean-of-6 = mean-of-6;
+        mean-of-10 = mean-of-10;
         case-f = sum-wraps;
         case-g = difference-wraps;
         case-h = case-h;

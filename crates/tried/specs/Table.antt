@@ -1,10 +1,10 @@
--- The starred cases (paper 01, "Tried by hand"), one field a case, and a case each of cards 1 and
--- 2, over the definitions. Proved in proofs/Table.antt.
+-- The starred cases (paper 01, "Tried by hand"), one field a case, and cases of cards 1 to 3, over
+-- the definitions. Proved in proofs/Table.antt.
 use Prim.Native.Nat.{ℕ, _+_, _-_, _*_, _^_, _≤_}
 use mathlib.Core.Path.{_≡_}
 use mathlib.Core.List.{List, [], _∷_, _++_, map}
 use lib.ListN.{length, getD, replicate}
-use Rattle.kernels.specs.Kernels.{kernelWord}
+use Rattle.kernels.specs.Kernels.{total, kernelWord}
 use Rattle.body.specs.Items.{itemPasses}
 use Rattle.body.specs.TwoRanks.{tenEdges}
 use Rattle.edges.specs.Rule.{AllEdges}
@@ -110,9 +110,13 @@ pub record Table : Type 0 where
       ascii "item 0 task 0\nitem 1 task 1\nitem 2 send 1\nitem 3 receive 0\n"
       ++ (ascii "edge 0 0 1\nedge 0 3 0\nedge 1 1 1\nedge 1 2 0\nedge 2 1 1\nedge 2 2 1\nedge 2 3 0\nedge 3 0 1\n"
       ++ ascii "edge 3 2 1\nedge 3 3 1\nsteps 12\nvalue 0 7\nvalue 1 11\n")
-  -- D kernel 3 on four times 2^64 - 1, E on 1, 1, 1, 0
+  -- D kernel 3 on four times 2^64 - 1, E on 1, 1, 1, 0, as card 3 has it
   pub case-d : (c : ℕ) → kernelWord 3 c ((2 ^ 64 - 1) ∷ (2 ^ 64 - 1) ∷ (2 ^ 64 - 1) ∷ (2 ^ 64 - 1) ∷ []) ≡ 2 ^ 64 - 1
-  pub case-e : (c : ℕ) → kernelWord 3 c (1 ∷ 1 ∷ 1 ∷ 0 ∷ []) ≡ 0
+  pub case-e : (c : ℕ) → kernelWord 3 c (1 ∷ 1 ∷ 1 ∷ 0 ∷ []) ≡ 1
+  -- card 3: a sum of 3 gives 1, a sum of 6 gives 2, a sum of 10 gives 2
+  pub mean-of-3 : (c : ℕ) (reads : List ℕ) → length reads ≡ 4 → total reads ≡ 3 → kernelWord 3 c reads ≡ 1
+  pub mean-of-6 : (c : ℕ) (reads : List ℕ) → length reads ≡ 4 → total reads ≡ 6 → kernelWord 3 c reads ≡ 2
+  pub mean-of-10 : (c : ℕ) (reads : List ℕ) → length reads ≡ 4 → total reads ≡ 10 → kernelWord 3 c reads ≡ 2
   -- F kernel 1, read 2^64 - 1, c 1; G kernel 2, reads 3 and 5, c 0
   pub case-f : kernelWord 1 1 ((2 ^ 64 - 1) ∷ []) ≡ 0
   pub case-g : kernelWord 2 0 (3 ∷ 5 ∷ []) ≡ 2 ^ 64 - 2
