@@ -8,6 +8,7 @@
 #include <stdlib.h>
 #include <time.h>
 
+#include "../host/loop.h"
 #include "../host/reading.h"
 #include "plans.h"
 
@@ -45,10 +46,6 @@ static bool take_body(int passes) {
     for (int i = 0; i < plan.tasks; i++)
         take_task(&plan.task[i], &body[i]);
     return true;
-}
-
-static uint64_t mean(uint64_t a, uint64_t b, uint64_t c, uint64_t d) {
-    return (uint64_t)(((unsigned __int128)a + b + c + d) / 4);
 }
 
 static inline uint64_t word_of(const struct body_task *task, const uint64_t *cells) {

@@ -38,6 +38,9 @@ void short_group(struct trial *trial, struct rng *rng);
    watches what is read. Answers alone are compared. */
 void bare_group(struct trial *trial, struct rng *rng);
 
+/* Kernel 3 on four random reads whose mean is known beforehand. */
+void means_group(struct trial *trial, struct rng *rng);
+
 /* The size of a group's plan: of 32, two have as many items as there can be, and two are large. */
 enum size size_of(long number);
 

@@ -17,7 +17,7 @@ uint64_t kernel_word(const struct task *task, const uint64_t *read) {
     case 2:
         return read[0] - read[1] + word;
     case 3:
-        return (uint64_t)(((unsigned __int128)read[0] + read[1] + read[2] + read[3]) / 4);
+        return mean(read[0], read[1], read[2], read[3]);
     default:
         word = read[0];
         for (int r = 1; r < count; r++)

@@ -16,6 +16,14 @@ struct loop {
     uint64_t *words;
 };
 
+/* The whole number nearest to the mean of four words, the even one where two are equally near. */
+static inline uint64_t mean(uint64_t a, uint64_t b, uint64_t c, uint64_t d) {
+    unsigned __int128 sum = (unsigned __int128)a + b + c + d;
+    uint64_t down = (uint64_t)(sum / 4);
+    int rest = (int)(sum % 4);
+    return down + (rest > 2 || (rest == 2 && down % 2 == 1));
+}
+
 /* The word of a task that has these reads. */
 uint64_t kernel_word(const struct task *task, const uint64_t *read);
 

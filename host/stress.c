@@ -10,11 +10,11 @@
    refusal was met, and one random plan in 64 has transfers of each of these kinds; 1 where not, and
    where the runtime has another version than its header.
 
-   stress --control answer|word|edge|line|reply|byte|total|item [SEED [PLANS]] is a run in which one
-   answer, one word of the lent state after a call, one edge, one line number, one word of a list's
-   answers, one byte of a written text, one total of steps or one item's number is changed before it
-   is compared. It has to end with the difference reported and status 1. The status is 2 where it is
-   not reported. */
+   stress --control answer|word|edge|line|reply|byte|total|item|mean [SEED [PLANS]] is a run in
+   which one answer, one word of the lent state after a call, one edge, one line number, one word of
+   a list's answers, one byte of a written text, one total of steps, one item's number or one mean
+   that is known is changed before it is compared. It has to end with the difference reported and
+   status 1. The status is 2 where it is not reported. */
 #include <inttypes.h>
 #include <stdio.h>
 #include <stdlib.h>
@@ -91,6 +91,7 @@ static void run_groups(struct count *all) {
     run_group("damage", damage_group, all->each, all);
     run_group("short", short_group, all->each, all);
     run_group("bare", bare_group, all->each, all);
+    run_group("means", means_group, all->each, all);
     print_line("all", all->plans, all->calls, all->texts, all->answered);
     print_traits(all);
 }
@@ -98,9 +99,9 @@ static void run_groups(struct count *all) {
 /* Prepares the control that an argument names. In each plan there are at least so many chances for
    the change; one of them is drawn. Answers false where it names none. */
 static bool take_control(struct count *all, const char *name) {
-    static const char *const names[CHANGES] = {"",      "answer", "word",  "edge", "line",
-                                               "reply", "byte",   "total", "item"};
-    static const int chances[CHANGES] = {0, 150, 150, 1, 16, 16, 8, 2, 1};
+    static const char *const names[CHANGES] = {"",     "answer", "word", "edge", "line", "reply",
+                                               "byte", "total",  "item", "mean"};
+    static const int chances[CHANGES] = {0, 150, 150, 1, 16, 16, 8, 2, 1, 1};
     struct control *control = &all->control;
     for (int change = NO_CHANGE + 1; change < CHANGES; change++)
         if (strcmp(name, names[change]) == 0) {

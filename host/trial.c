@@ -21,7 +21,8 @@ static const char *const call_names[CALLS] = {"open", "start", "finish", "result
 
 static const char *const change_names[CHANGES] = {"nothing", "an answer", "a word",
                                                   "an edge", "a line",    "a reply",
-                                                  "a byte",  "a total",   "an item"};
+                                                  "a byte",  "a total",   "an item",
+                                                  "a mean"};
 
 void differ(const struct trial *trial, const char *form, ...) {
     va_list rest;
@@ -107,6 +108,10 @@ static void change_byte(struct trial *trial, uint8_t *text, uint64_t length) {
         return;
     uint8_t *at = &text[draw_below(&control->rng, (int)length)];
     *at = (uint8_t)flipped(control, *at, 8);
+}
+
+uint64_t with_changed_mean(struct trial *trial, uint64_t mean) {
+    return makes_change(trial, CHANGED_MEAN) ? flipped(trial->control, mean, 64) : mean;
 }
 
 void count_answer(struct trial *trial, uint64_t refusal) {

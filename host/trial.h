@@ -13,7 +13,7 @@ enum { LAST_REFUSAL = 19, ITEM_ROOM = MAX_ITEMS, EDGE_ROOM = 3 * MAX_EDGES, LIST
 
 /* What a control run changes once, between the runtime and the comparison: an answer, a word of the
    lent state after a call, an edge, the line that reading answers, a word of a list's answers, a
-   byte of a written text, a total of steps, or an item's number. */
+   byte of a written text, a total of steps, an item's number, or a mean that is known. */
 enum change {
     NO_CHANGE,
     CHANGED_ANSWER,
@@ -24,6 +24,7 @@ enum change {
     CHANGED_BYTE,
     CHANGED_TOTAL,
     CHANGED_ITEM,
+    CHANGED_MEAN,
     CHANGES
 };
 
@@ -89,6 +90,9 @@ void put_plan(struct trial *trial, const struct plan *plan);
 
 /* Puts one word of the plan into both memories, and finds the shape. */
 void put_word(struct trial *trial, int word, uint64_t value);
+
+/* A mean that is known, as it is or, in a control run, with a bit changed. */
+uint64_t with_changed_mean(struct trial *trial, uint64_t mean);
 
 /* Counts the answer of a call. */
 void count_answer(struct trial *trial, uint64_t refusal);
