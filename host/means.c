@@ -41,7 +41,7 @@ static uint64_t draw_mean(struct rng *rng, uint64_t *read) {
     return mean;
 }
 
-/* Makes a call that is accepted and answers the mean. */
+/* Makes a call that is accepted and answers the mean, by the runtime and by the second method. */
 static void try_mean(struct trial *trial, struct rng *rng, enum call call, uint64_t number,
                      uint64_t mean) {
     struct answer answer = try_call(trial, call, draw_enough(rng), number);

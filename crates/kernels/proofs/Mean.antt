@@ -6,7 +6,7 @@ use native.Mathlib.Decide.{decLt, decLe}
 use native.Mathlib.Omega.{arith}
 use lib.ListN.{length}
 use Rattle.finite.specs.Below.{sumBelow}
-use Rattle.kernels.specs.Kernels.{total, kernelWord, quarter, distance, Nearest, MeanLaws}
+use Rattle.kernels.specs.Kernels.{total, kernelWord, quarter, apart, Nearest, MeanLaws}
 
 -- quarter
 
@@ -40,8 +40,8 @@ nearest-rises s u m n h a b =
     elim (decLe m n) [
       | yes k ↦ k
       | no k ↦
-          (let e : distance (4 * m) s ≡ 2 = omega (arith, a .within, b .within) in
-          let f : distance (4 * n) u ≡ 2 = omega (arith, a .within, b .within) in
+          (let e : apart (4 * m) s ≡ 2 = omega (arith, a .within, b .within) in
+          let f : apart (4 * n) u ≡ 2 = omega (arith, a .within, b .within) in
           let d : m ≡ n + 1 = omega (arith, a .within, b .within) in
           absurd (one-odd n (b .even f) (rw (← d) (a .even e))))
     ]

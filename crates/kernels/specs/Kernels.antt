@@ -37,8 +37,8 @@ abbrev pub differenceWord : ℕ → List ℕ → ℕ
 differenceWord c reads = (readAt reads 0 + (2 ^ 64 - readAt reads 1) + c) % 2 ^ 64
 
 -- a quarter of s to the nearest whole number, the even one where two are equally near: before the
--- division 1 is added where s / 4 is even, so that a half goes down, and 2 where it is odd, so that
--- it goes up
+-- division 1 is added where s / 4, rounded down, is even, so that a half goes down, and 2 where it
+-- is odd, so that it goes up
 abbrev pub quarter : ℕ → ℕ
 quarter s = (s + 1 + s / 4 % 2) / 4
 
@@ -101,14 +101,14 @@ isKernel k = isKnown (kernelBy k)
 -- Kernel 3 in the words of card 3 (proved in proofs/Mean.antt).
 
 -- how far apart two numbers are
-abbrev pub distance : ℕ → ℕ → ℕ
-distance m n = (m - n) + (n - m)
+abbrev pub apart : ℕ → ℕ → ℕ
+apart m n = (m - n) + (n - m)
 
 -- m is the whole number nearest to a quarter of s, the even one where two are equally near: 4 m
 -- lies within 2 of s, and where it differs by exactly 2, m is even
 pub record Nearest (s m : ℕ) : Type 0 where
-  pub within : distance (4 * m) s ≤ 2
-  pub even : distance (4 * m) s ≡ 2 → m % 2 ≡ 0
+  pub within : apart (4 * m) s ≤ 2
+  pub even : apart (4 * m) s ≡ 2 → m % 2 ≡ 0
 
 pub record MeanLaws : Type 0 where
   -- the word of kernel 3 is the number nearest to a quarter of the sum of its four reads

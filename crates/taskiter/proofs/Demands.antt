@@ -20,7 +20,7 @@ use Rattle.reading.specs.Plan.{Plan, wordsOf}
 use Rattle.reading.specs.Reading.{Reading, accepted as readTo, refused as notRead, readOf}
 use Rattle.reading.specs.Refusals.{Fit, fit, noFit, fitFrom}
 use Rattle.reading.specs.Laws.{Says, Holds, Answers}
-use Rattle.reading.proofs.Theorems.{laws as reading-laws, text-laws}
+use Rattle.reading.proofs.Theorems.{laws as reading-laws, text-laws, form-parts}
 use Rattle.reader.specs.declared.Answer.{Answer}
 use Rattle.reader.specs.Answer.{Reads, answerOf, leftIn}
 use Rattle.graph.specs.declared.Number.{Number}
@@ -35,6 +35,7 @@ use Rattle.steps.proofs.Made.{start-word, start-counts, start-values, finish-wo
 use Rattle.taskiter.specs.Demands.{FitTold, TextRead, PlanReady, Steps, Demand1, Demand2, stepsOf, AtEnd, InAnyOrder, Opened, Demand3, Demands}
 use Rattle.taskiter.proofs.AnyOrder.{in-any-order}
 use Rattle.taskiter.proofs.Unread.{unread}
+use Rattle.taskiter.proofs.Means.{mean-words}
 use Rattle.taskiter.proofs.Readiness.{ready-long, ready-form, ready-clear, counts-ready, form-ready, clear-ready}
 use Rattle.taskiter.proofs.Writing.{text-given}
 use Rattle.taskiter.proofs.Giving.{items-given, edges-given, total-given}
@@ -167,6 +168,7 @@ opened-order text w behind counts values e long-counts long-values =
       says = (p .0, p .1, subst (λ (v : List ℕ). Holds v (p .0)) (sym (p .2)) (reading-laws .holds (p .0) (p .1 .within)));
       accepted = o .0;
       every-list = o .1;
+      means = λ p t l k. mean-words w (form-parts w (reading-laws .in-form text w e) .0) t l k p;
       total = λ r A. total-ends size (open-accepted (w ++ behind) counts values .0 (o .0)) r A (o .1);
       stays-ready = λ l. let s = play (w ++ behind) (lentBy (openOf (w ++ behind) counts values)) l in
           counts-ready (w ++ behind) (s .counts) (s .values) (read-ready (s .counts) (s .values) size (o .2 l)) (o .2 l .formed-counts);
@@ -192,7 +194,7 @@ opened-order text w behind counts values e long-counts long-values =
         (z, λ l. (λ h. order l .ends .0 h ∙ sym is, λ h. order l .ends .1 (h ∙ is)))
 
 demand-3 : Demand3
-demand-3 = record { any-order = opened-order; means = mean-laws; word-of = call-word; call-of = word-call; in-words = in-words }
+demand-3 = record { any-order = opened-order; nearest = mean-laws; word-of = call-word; call-of = word-call; in-words = in-words }
 
 pub demands : Demands
 demands = record { demand-1 = demand-1; demand-2 = demand-2; demand-3 = demand-3 }

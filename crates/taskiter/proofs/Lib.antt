@@ -7,6 +7,7 @@ pub mod Writing
 pub mod Playing
 pub mod Replying
 pub mod Numbering
+pub mod Means
 pub mod Demands
 pub mod Exported
 pub mod Ending

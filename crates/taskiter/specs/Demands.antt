@@ -7,23 +7,23 @@ use Prim.Native.Nat.{ℕ, suc, _+_, _*_, _≤_, _<_}
 use mathlib.Core.Path.{_≡_}
 use mathlib.Core.Bool.{true, false, cond}
 use mathlib.Core.Logic.{_↔_, _⊎_}
-use mathlib.Core.List.{List, [], _∷_, _++_, List·Memᴰ as In}
+use mathlib.Core.List.{List, [], _∷_, _++_, map, List·Memᴰ as In}
 use lib.Dec.{leb}
 use lib.ListN.{length, getD, set, take, drop, replicate}
 use Rattle.finite.specs.Lists.{mem}
-use Rattle.kernels.specs.Kernels.{MeanLaws}
+use Rattle.kernels.specs.Kernels.{total, Nearest, MeanLaws}
 use Rattle.unroll.specs.System.{Accesses}
 use Rattle.unroll.specs.Sequential.{wordOn}
 use Rattle.unroll.specs.Machine.{State, CanFinish}
 use Rattle.unroll.specs.Meaning.{StartRule}
 use Rattle.body.specs.Body.{Body, firstSlot}
-use Rattle.body.specs.Loop.{loopWord, loopFinal}
+use Rattle.body.specs.Loop.{cellsAt, loopWord, loopFinal}
 use Rattle.body.specs.Transfers.{transferCount}
 use Rattle.body.specs.Items.{send, writer, itemRank, itemCount, itemAt, itemPasses, totalSteps}
 use Rattle.body.specs.Places.{slot, copy, system}
 use Rattle.body.specs.Meaning.{LastWriter, Meaning}
 use Rattle.plan.specs.Limits.{maxBytes, maxTransfers, maxWord}
-use Rattle.plan.specs.Layout.{planWords, bodyOf}
+use Rattle.plan.specs.Layout.{planWords, tasksOf, kernelOf, readsOf, bodyOf}
 use Rattle.text.specs.Records.{split}
 use Rattle.reading.specs.Plan.{Plan, wordsOf}
 use Rattle.reading.specs.Written.{records, textFrom}
@@ -295,6 +295,9 @@ pub record Opened (text w plan counts values : List ℕ) : Type 0 where
   pub says : (P : Plan) × Says text P × Holds w P
   pub accepted : openOf plan counts values .refusal ≡ 0
   pub every-list : (l : List Call) → InAnyOrder (bodyOf w) plan (lentBy (openOf plan counts values)) l
+  -- in the loop a task of kernel 3 has the mean of its reads to the nearest (paper 02, card 3)
+  pub means : (p t : ℕ) → t < tasksOf w → kernelOf w t ≡ 3 →
+      Nearest (total (map (cellsAt (bodyOf w) p t) (readsOf w t))) (loopWord (bodyOf w) p t)
   -- the number that `taskiter_total` answers: a list ends the loop exactly if so many of its steps
   -- are accepted
   pub total : (r : Number) → TotalAnswer plan r →
@@ -310,8 +313,8 @@ pub record Opened (text w plan counts values : List ℕ) : Type 0 where
 pub record Demand3 : Type 0 where
   pub any-order : (text w behind counts values : List ℕ) → readOf text ≡ readTo w → countWords ≤ length counts → valueWords ≤ length values →
       Opened text w (w ++ behind) counts values
-  -- kernel 3, in the loop as in the runtime, gives the mean to the nearest
-  pub means : MeanLaws
+  -- kernel 3 gives the mean to the nearest, and a sum has no other such number
+  pub nearest : MeanLaws
   -- words and calls are one to one, and 64-bit words say every list of calls with numbers below `callNumbers`: no such list is out of reach
   pub word-of : (c : Call) → callOf (wordOf c) ≡ c
   pub call-of : (word : ℕ) → wordOf (callOf word) ≡ word
