@@ -66,6 +66,10 @@ module _ (B : Body) where
   store-out p k y x e f = store-kept fullSystem p k x (λ h m. f (subst (λ (z : Item). mem x (writesOf B k z) ≡ true) e m))
 
   -- the loop, one task on
+  pub loopWord-reads : (p t : ℕ) → loopWord B p t ≡ B .compute t (map (cellsAt B p t) (B .reads t))
+  unfolding loopWord taskWord
+  loopWord-reads p t = refl
+
   cells-wrote : (p t g : ℕ) → mem g (B .writes t) ≡ true → cellsAt B p (suc t) g ≡ loopWord B p t
   unfolding cellsAt tasksRun loopWord
   cells-wrote p t g h = put-in (B .writes t) _ _ g h
@@ -95,12 +99,13 @@ module _ (B : Body) where
 
 module _ (B : Body) (F : Fits B) (p : ℕ) (lp : p < B .passes) (t : ℕ) (lt : t < B .tasks) where
   task-word : (k : ℕ) → itemAt B k ≡ task t → BeforeTask B p t k → word (fullSystem B) p k ≡ loopWord B p t
-  unfolding loopWord taskWord readsOf computeOf
+  unfolding readsOf computeOf
   task-word k e r =
       word-at B p k (task t) e
       ∙ ap (B .compute t) (map-map (storeAt (fullSystem B) p k) (copy B (B .rank t)) (B .reads t)
       ∙ map-ext (λ g. storeAt (fullSystem B) p k (copy B (B .rank t) g)) (cellsAt B p t) (B .reads t)
       (λ g m. r .copies (B .rank t) g (F .rank-below t lt) (F .reads-below t g lt m) (read-up-to-date B p t g lt m)))
+      ∙ sym (loopWord-reads B p t)
 
   task-own : (k : ℕ) → itemAt B k ≡ task t → BeforeTask B p t k → (g : ℕ) → mem g (B .writes t) ≡ true → storeAt (fullSystem B) p (suc k) (copy B (B .rank t) g) ≡ loopWord B p t
   unfolding writesOf

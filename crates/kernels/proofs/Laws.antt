@@ -10,7 +10,7 @@ use native.Mathlib.Omega.{arith}
 use lib.Dec.{leb}
 use lib.ListN.{length, getD, take}
 use lib.Seq.{take-suc, take-all}
-use borrow.Author.Tests.{lt-leb, ne-eqb}
+use borrow.Author.Tests.{lt-leb, ne-eqb, eqb-true}
 use Rattle.finite.proofs.Tests.{not-both}
 use Rattle.kernels.specs.declared.Kernel.{Kernel}
 use Rattle.kernels.specs.declared.Kernel.the-variants.{Unknown}
@@ -87,6 +87,10 @@ suits-other k n h = ap (λ x. permits x n) (kernelBy-other k h)
 pub suits-by : (k n : ℕ) (x : Kernel) → x ≡ kernelBy k → permits x n ≡ suits k n
 unfolding suits
 suits-by k n x e = ap (λ y. permits y n) e
+
+pub suits-mean : (n : ℕ) → suits 3 n ≡ true → n ≡ 4
+unfolding suits
+suits-mean n h = eqb-true n 4 h
 
 -- a number that permits some number of reads is a kernel
 pub suits-kernel : (k n : ℕ) → suits k n ≡ true → k ≤ 4
