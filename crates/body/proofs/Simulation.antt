@@ -65,11 +65,12 @@ module _ (B : Body) where
   store-out : (p k : ℕ) (y : Item) (x : ℕ) → itemAt B k ≡ y → (mem x (writesOf B k y) ≡ true → ⊥) → storeAt fullSystem p (suc k) x ≡ storeAt fullSystem p k x
   store-out p k y x e f = store-kept fullSystem p k x (λ h m. f (subst (λ (z : Item). mem x (writesOf B k z) ≡ true) e m))
 
-  -- the loop, one task on
+  -- what the loop's word is computed from
   pub loopWord-reads : (p t : ℕ) → loopWord B p t ≡ B .compute t (map (cellsAt B p t) (B .reads t))
   unfolding loopWord taskWord
   loopWord-reads p t = refl
 
+  -- the loop, one task on
   cells-wrote : (p t g : ℕ) → mem g (B .writes t) ≡ true → cellsAt B p (suc t) g ≡ loopWord B p t
   unfolding cellsAt tasksRun loopWord
   cells-wrote p t g h = put-in (B .writes t) _ _ g h
