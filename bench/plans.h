@@ -8,15 +8,17 @@
 
 enum { TEXT_ROOM = 40000 };
 
+#define MOST_PASSES UINT64_C(1000000000000)
+
 static int put(char *text, int at, const char *line) {
     size_t length = strlen(line);
     memcpy(text + at, line, length);
     return at + (int)length;
 }
 
-static int put_loop(char *text, int at, int passes, int ranks, int regions) {
+static int put_loop(char *text, int at, uint64_t passes, int ranks, int regions) {
     char line[64];
-    snprintf(line, sizeof line, "loop\t%d\t%d\t%d\n", passes, ranks, regions);
+    snprintf(line, sizeof line, "loop\t%" PRIu64 "\t%d\t%d\n", passes, ranks, regions);
     return put(text, at, line);
 }
 
@@ -51,7 +53,7 @@ static int example_plan(char *text) {
 /* The largest text: 128 tasks of 8 `inout` accesses of regions with three digits, all starting values, the longest numbers. The tasks go
    round three ranks, each with seven regions of its own, and share region 127: 128 transfers. */
 static int largest_plan(char *text) {
-    int at = put_loop(text, 0, 1000000, 16, 128);
+    int at = put_loop(text, 0, MOST_PASSES, 16, 128);
     at = put_starts(text, at, 128);
     for (int i = 0; i < 128; i++) {
         at = put_begin(text, at, 10 + i % 3);
@@ -66,7 +68,7 @@ static int largest_plan(char *text) {
 /* As many items as a plan may have: 128 tasks of 8 accesses round some ranks, each with six regions of its own and two that all share,
    so that the words of the shared ones change rank at every access: 256 transfers, 640 items. */
 static int most_items_plan(char *text, int ranks) {
-    int at = put_loop(text, 0, 1000000, ranks, 128);
+    int at = put_loop(text, 0, MOST_PASSES, ranks, 128);
     at = put_starts(text, at, 128);
     for (int i = 0; i < 128; i++) {
         at = put_begin(text, at, i % ranks);
@@ -82,7 +84,7 @@ static int most_items_plan(char *text, int ranks) {
 /* As many items, and long walks: 32 tasks on rank 0 write eight words each that a task on rank 1 reads, 256 transfers; before them stand 64
    tasks on rank 0 that read eight regions which nobody writes, so that no writer ends a walk from them. */
 static int longest_walk_plan(char *text) {
-    int at = put_loop(text, 0, 1000000, 2, 16);
+    int at = put_loop(text, 0, MOST_PASSES, 2, 16);
     for (int i = 0; i < 64; i++) {
         at = put_begin(text, at, 0);
         for (int a = 0; a < 8; a++)

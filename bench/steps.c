@@ -32,8 +32,8 @@ static uint64_t measured(const char *call, uint64_t item) {
 }
 
 /* The passes that an item has. */
-static uint32_t own_passes(uint64_t item) {
-    uint32_t passes = (uint32_t)plan[0], fewer = TASKITER_ITEM_FEWER(items[item]);
+static uint64_t own_passes(uint64_t item) {
+    uint64_t passes = plan[0], fewer = TASKITER_ITEM_FEWER(items[item]);
     return passes > fewer ? passes - fewer : 0;
 }
 

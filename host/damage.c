@@ -42,41 +42,42 @@ int draw_place(struct rng *rng, int tasks) {
     }
 }
 
-/* Random counts in form, the same in both memories; now and then all passes are finished. */
-static void put_counts(struct trial *trial, struct rng *rng) {
-    int passes = trial->shape.plan.passes,
-        most = draw_below(rng, 3) == 0 ? passes : draw_below(rng, passes + 1);
-    bool done = draw_below(rng, 4) == 0;
-    for (int a = 0; a < trial->shape.graph.items; a++) {
-        int own = own_passes(&trial->shape.plan, &trial->shape.graph.item[a]),
-            f = done ? passes : most - draw_below(rng, most > 2 ? 3 : most + 1);
-        f = f < own ? f : own;
-        trial->lent.counts[MAX_ITEMS + a] = (uint32_t)f;
-        trial->lent.counts[a] = (uint32_t)(f + (f < own && draw_below(rng, 3) == 0));
-    }
-    memcpy(trial->expected.counts, trial->lent.counts, sizeof trial->lent.counts);
-}
-
-/* Puts the counts of one item into both memories. */
-static void put_item_counts(struct trial *trial, int item, uint32_t started, uint32_t finished) {
+void put_item_counts(struct trial *trial, int item, uint64_t started, uint64_t finished) {
     trial->lent.counts[item] = trial->expected.counts[item] = started;
     trial->lent.counts[MAX_ITEMS + item] = trial->expected.counts[MAX_ITEMS + item] = finished;
 }
 
-/* A start of an item with these counts; whether it is refused with this number. Leaves the memory
-   as it was. */
-static bool refused_with(struct trial *trial, int item, int started, int finished,
-                         uint64_t refusal) {
+void put_counts_near(struct trial *trial, struct rng *rng, uint64_t passes, uint64_t fewer) {
+    for (int a = 0; a < trial->shape.graph.items; a++) {
+        uint64_t own = own_passes(&trial->shape.plan, &trial->shape.graph.item[a]),
+                 f = passes - draw_word_below(rng, (fewer < passes ? fewer : passes) + 1);
+        f = f < own ? f : own;
+        put_item_counts(trial, a, f + (f < own && draw_below(rng, 3) == 0), f);
+    }
+}
+
+/* Random counts in form; now and then all passes are finished. */
+static void put_counts(struct trial *trial, struct rng *rng) {
+    uint64_t passes = trial->shape.plan.passes;
+    if (draw_below(rng, 4) == 0)
+        put_counts_near(trial, rng, passes, 0);
+    else if (draw_below(rng, 3) == 0)
+        put_counts_near(trial, rng, passes, 2);
+    else
+        put_counts_near(trial, rng, draw_word_below(rng, passes + 1), 2);
+}
+
+bool refused_with(struct trial *trial, int item, uint64_t started, uint64_t finished,
+                  uint64_t refusal) {
     static struct memory kept;
     kept = trial->lent;
-    put_item_counts(trial, item, (uint32_t)started, (uint32_t)finished);
+    put_item_counts(trial, item, started, finished);
     bool same = try_call(trial, START_CALL, least, (uint64_t)item).refusal == refusal;
     trial->lent = trial->expected = kept;
     return same;
 }
 
-/* An item of a wrapped transfer, or -1 where there is none. */
-static int draw_wrapped(struct trial *trial, struct rng *rng) {
+int draw_wrapped(struct trial *trial, struct rng *rng) {
     const struct graph *graph = &trial->shape.graph;
     int from = draw_below(rng, graph->items);
     for (int k = 0; k < graph->items; k++)
@@ -89,7 +90,8 @@ static int draw_wrapped(struct trial *trial, struct rng *rng) {
    form. Finished, it gives 14. A pass more, started or finished, is 12, though the plan has it; a
    pass less is not. */
 static void try_last_pass(struct trial *trial, struct rng *rng) {
-    int item = draw_wrapped(trial, rng), last = trial->shape.plan.passes, own = last - 1;
+    int item = draw_wrapped(trial, rng);
+    uint64_t last = trial->shape.plan.passes, own = last - 1;
     if (item < 0 || last == 0)
         return;
     if (!refused_with(trial, item, own, own, 14))
@@ -102,8 +104,7 @@ static void try_last_pass(struct trial *trial, struct rng *rng) {
         differ(trial, "item %d has a pass left, and is refused for its counts", item);
 }
 
-/* Makes each call once, and a list of three, with the memory as it is, and puts it back. */
-static void try_all(struct trial *trial, struct rng *rng, struct lengths lengths) {
+void try_all(struct trial *trial, struct rng *rng, struct lengths lengths) {
     static struct memory kept;
     kept = trial->lent;
     uint64_t calls[] = {draw_call(trial, rng), draw_call(trial, rng), draw_call(trial, rng)};
@@ -127,8 +128,8 @@ static void try_state(struct trial *trial, struct rng *rng) {
 static void try_damaged_count(struct trial *trial, struct rng *rng) {
     int item = draw_below(rng, trial->shape.graph.items + (draw_below(rng, 4) == 0));
     int at = item % MAX_ITEMS + MAX_ITEMS * draw_below(rng, 2);
-    uint32_t kept = trial->lent.counts[at];
-    trial->lent.counts[at] = trial->expected.counts[at] = (uint32_t)draw_instead(rng, kept);
+    uint64_t kept = trial->lent.counts[at];
+    trial->lent.counts[at] = trial->expected.counts[at] = draw_instead(rng, kept);
     try_all(trial, rng, draw_enough(rng));
     trial->lent.counts[at] = trial->expected.counts[at] = kept;
 }

@@ -21,6 +21,10 @@ int draw_below(struct rng *rng, int n) {
     return (int)((draw(rng) >> 32) * (uint64_t)n >> 32);
 }
 
+uint64_t draw_word_below(struct rng *rng, uint64_t n) {
+    return (uint64_t)((unsigned __int128)draw(rng) * n >> 64);
+}
+
 uint64_t draw_word(struct rng *rng) {
     switch (draw_below(rng, 5)) {
     case 0:
@@ -34,12 +38,25 @@ uint64_t draw_word(struct rng *rng) {
     }
 }
 
-static int draw_passes(struct rng *rng, enum size size) {
+uint64_t draw_many_passes(struct rng *rng) {
+    const uint64_t passes[] = {MAX_PASSES,
+                               MAX_PASSES - 1,
+                               MAX_PASSES - (uint64_t)draw_below(rng, 1000),
+                               (UINT64_C(1) << 32) - 1,
+                               UINT64_C(1) << 32,
+                               (UINT64_C(1) << 32) + 1,
+                               1000000,
+                               1000001,
+                               MAX_PASSES - draw_word_below(rng, MAX_PASSES)};
+    return passes[draw_below(rng, (int)(sizeof passes / sizeof *passes))];
+}
+
+static uint64_t draw_passes(struct rng *rng, enum size size) {
     static const int most[SIZES] = {12, 5, 3, 2, 2};
     int kind = draw_below(rng, 12);
     return kind == 0   ? 0
-           : kind == 1 ? MAX_PASSES - draw_below(rng, 2)
-                       : 1 + draw_below(rng, most[size]);
+           : kind == 1 ? draw_many_passes(rng)
+                       : 1 + (uint64_t)draw_below(rng, most[size]);
 }
 
 /* A region that the task does not name yet; the first few more often than others. */
@@ -201,7 +218,7 @@ static int put_starts(struct rng *rng, const struct plan *plan, char *text) {
 }
 
 int draw_text(struct rng *rng, const struct plan *plan, char *text) {
-    int at = sprintf(text, "loop\t%d\t%d\t%d\n", plan->passes, plan->ranks, plan->regions);
+    int at = sprintf(text, "loop\t%" PRIu64 "\t%d\t%d\n", plan->passes, plan->ranks, plan->regions);
     at += put_starts(rng, plan, text + at);
     return at + write_tasks(plan, text + at);
 }

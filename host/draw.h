@@ -8,6 +8,9 @@
 
 enum { TEXT_ROOM = 40000 };
 
+/* A plan of at most so many passes is played to its end in a moment. */
+enum { FEW_PASSES = 100 };
+
 struct rng {
     uint64_t state;
 };
@@ -25,9 +28,14 @@ uint64_t draw(struct rng *rng);
 
 /* A number below n, which is not 0. */
 int draw_below(struct rng *rng, int n);
+uint64_t draw_word_below(struct rng *rng, uint64_t n);
 
 /* Any word, the least and the greatest more often than others. */
 uint64_t draw_word(struct rng *rng);
+
+/* Passes that are not played to their end: at the limit and about it, about 2^32 and a million, or
+   any. */
+uint64_t draw_many_passes(struct rng *rng);
 
 /* A plan of some size within every limit but that of transfers. */
 void draw_body(struct rng *rng, enum size size, struct plan *plan);

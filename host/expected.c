@@ -28,10 +28,10 @@ static void print_edges(const struct graph *graph) {
 
 /* Two steps for each pass of each item. */
 static void print_steps(const struct plan *plan, const struct graph *graph) {
-    long steps = 0;
+    uint64_t steps = 0;
     for (int a = 0; a < graph->items; a++)
-        steps += 2L * own_passes(plan, &graph->item[a]);
-    printf("steps %ld\n", steps);
+        steps += 2 * own_passes(plan, &graph->item[a]);
+    printf("steps %" PRIu64 "\n", steps);
 }
 
 static void print_values(const struct plan *plan) {

@@ -155,8 +155,9 @@ static bool written_between(const struct graph *graph, int place, int after, int
     return false;
 }
 
-int own_passes(const struct plan *plan, const struct item *item) {
-    return plan->passes > item->fewer ? plan->passes - item->fewer : 0;
+uint64_t own_passes(const struct plan *plan, const struct item *item) {
+    uint64_t fewer = (uint64_t)item->fewer;
+    return plan->passes > fewer ? plan->passes - fewer : 0;
 }
 
 bool read_in_pass(const struct graph *graph, int receive) {

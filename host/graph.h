@@ -56,7 +56,7 @@ void make_graph(const struct plan *plan, struct graph *graph);
 bool rule_holds(const struct graph *graph, int a, int b, int distance);
 
 /* The passes that an item of the plan has: the plan's, less those that it has fewer, or 0. */
-int own_passes(const struct plan *plan, const struct item *item);
+uint64_t own_passes(const struct plan *plan, const struct item *item);
 
 /* Whether a task reads the copy that a receive writes in the same pass, behind the receive and
    before another item writes it: found by the places alone. */

@@ -41,6 +41,11 @@ void bare_group(struct trial *trial, struct rng *rng);
 /* Kernel 3 on four random reads whose mean is known beforehand. */
 void means_group(struct trial *trial, struct rng *rng);
 
+/* Plans of up to 10^12 passes with counts put by hand: the last passes, and those about 2^32, are
+   played with the words of a loop that begins there; counts one off, and counts in form only modulo
+   2^32, are refused. */
+void passes_group(struct trial *trial, struct rng *rng);
+
 /* The size of a group's plan: of 32, two have as many items as there can be, and two are large. */
 enum size size_of(long number);
 
@@ -70,6 +75,24 @@ int draw_place(struct rng *rng, int tasks);
 
 /* A word in place of another: one near it, one with a bit or a field changed, or any. */
 uint64_t draw_instead(struct rng *rng, uint64_t word);
+
+/* Makes each call once, and a list of three, with the memory as it is, and puts it back. */
+void try_all(struct trial *trial, struct rng *rng, struct lengths lengths);
+
+/* Puts the counts of one item into both memories. */
+void put_item_counts(struct trial *trial, int item, uint64_t started, uint64_t finished);
+
+/* Puts random counts in form: each item has finished so many passes or up to so many fewer, but not
+   more than it has, and some are running. */
+void put_counts_near(struct trial *trial, struct rng *rng, uint64_t passes, uint64_t fewer);
+
+/* A start of an item with these counts; whether it is refused with this number. Leaves the memory
+   as it was. */
+bool refused_with(struct trial *trial, int item, uint64_t started, uint64_t finished,
+                  uint64_t refusal);
+
+/* An item of a wrapped transfer, or -1 where there is none. */
+int draw_wrapped(struct trial *trial, struct rng *rng);
 
 /* Every call once, and a list of calls, with a count or a word of the plan changed or with slices
    that may be too short. Leaves the memory as it was. */

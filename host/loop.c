@@ -54,16 +54,16 @@ static uint64_t *next_words(struct loop *loop) {
     size_t tasks = (size_t)loop->plan->tasks;
     if (loop->passes == loop->room) {
         loop->room = 2 * loop->room + 8;
-        loop->words = realloc(loop->words, (size_t)loop->room * tasks * sizeof *loop->words);
+        loop->words = realloc(loop->words, loop->room * tasks * sizeof *loop->words);
         if (loop->words == NULL) {
             fprintf(stderr, "no memory for the unrolled loop\n");
             exit(2);
         }
     }
-    return loop->words + (size_t)loop->passes * tasks;
+    return loop->words + loop->passes * tasks;
 }
 
-static void run_passes(struct loop *loop, int passes) {
+static void run_passes(struct loop *loop, uint64_t passes) {
     while (loop->passes < passes) {
         uint64_t *words = next_words(loop);
         for (int i = 0; i < loop->plan->tasks; i++)
@@ -72,9 +72,9 @@ static void run_passes(struct loop *loop, int passes) {
     }
 }
 
-uint64_t loop_word(struct loop *loop, int pass, int task) {
+uint64_t loop_word(struct loop *loop, uint64_t pass, int task) {
     run_passes(loop, pass + 1);
-    return loop->words[(size_t)pass * (size_t)loop->plan->tasks + (size_t)task];
+    return loop->words[pass * (size_t)loop->plan->tasks + (size_t)task];
 }
 
 uint64_t loop_final(struct loop *loop, int region) {

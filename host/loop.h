@@ -11,7 +11,7 @@
    are kept. */
 struct loop {
     const struct plan *plan;
-    int passes, room;
+    uint64_t passes, room;
     uint64_t cells[MAX_REGIONS];
     uint64_t *words;
 };
@@ -32,7 +32,7 @@ void loop_begin(struct loop *loop, const struct plan *plan);
 void loop_end(struct loop *loop);
 
 /* The word of a task in a pass of the plan; runs the loop as far as that. */
-uint64_t loop_word(struct loop *loop, int pass, int task);
+uint64_t loop_word(struct loop *loop, uint64_t pass, int task);
 
 /* The final number of a region; runs the loop to its end. */
 uint64_t loop_final(struct loop *loop, int region);

@@ -12,15 +12,15 @@ void make_shape(const uint64_t *words, struct shape *shape) {
 }
 
 /* The passes that an item has. */
-static uint32_t passes_of(const struct shape *shape, int item) {
-    return (uint32_t)own_passes(&shape->plan, &shape->graph.item[item]);
+static uint64_t passes_of(const struct shape *shape, int item) {
+    return own_passes(&shape->plan, &shape->graph.item[item]);
 }
 
-static uint32_t started(const struct memory *memory, int item) {
+static uint64_t started(const struct memory *memory, int item) {
     return memory->counts[item];
 }
 
-static uint32_t finished(const struct memory *memory, int item) {
+static uint64_t finished(const struct memory *memory, int item) {
     return memory->counts[MAX_ITEMS + item];
 }
 
@@ -45,10 +45,11 @@ bool complete(const struct shape *shape, const struct memory *memory) {
 /* Whether the source of an edge has finished for this pass of the item that the edge leads into. An
    instance that is not made counts as met. */
 static bool wait_met(const struct shape *shape, const struct memory *memory,
-                     const struct edge *edge, uint32_t pass) {
-    if (pass < (uint32_t)edge->distance)
+                     const struct edge *edge, uint64_t pass) {
+    uint64_t distance = (uint64_t)edge->distance;
+    if (pass < distance)
         return true;
-    uint32_t instance = pass - (uint32_t)edge->distance;
+    uint64_t instance = pass - distance;
     return instance >= passes_of(shape, edge->from) || finished(memory, edge->from) > instance;
 }
 
@@ -184,9 +185,9 @@ struct answer model_total(const struct shape *shape, size_t plan_length) {
         return (struct answer){11, 0};
     if (!shape->formed)
         return (struct answer){12, 0};
-    int64_t passes = shape->plan.passes, items = shape->graph.items;
-    int64_t total = passes == 0 ? 0 : 2 * (passes * items - 2 * shape->graph.wrapped);
-    return (struct answer){0, (uint64_t)total};
+    uint64_t passes = shape->plan.passes, items = (uint64_t)shape->graph.items,
+             wrapped = (uint64_t)shape->graph.wrapped;
+    return (struct answer){0, passes == 0 ? 0 : 2 * (passes * items - 2 * wrapped)};
 }
 
 struct answer model_write(const struct shape *shape, size_t plan_length, uint8_t *text,

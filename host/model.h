@@ -14,7 +14,7 @@ enum { COUNTS = 2 * MAX_ITEMS, FIRST_HELD = PLACES, VALUES = FIRST_HELD + MAX_IT
 /* The slices of a call, each between guards that nobody may change. */
 struct memory {
     uint64_t plan_front[GUARD], plan[PLAN_WORDS], plan_behind[GUARD];
-    uint32_t counts_front[GUARD], counts[COUNTS], counts_behind[GUARD];
+    uint64_t counts_front[GUARD], counts[COUNTS], counts_behind[GUARD];
     uint64_t values_front[GUARD], values[VALUES], values_behind[GUARD];
 };
 

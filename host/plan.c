@@ -83,7 +83,7 @@ int find_wants(const struct plan *plan, struct wants *wants) {
 
 void plan_words(const struct plan *plan, uint64_t *words) {
     memset(words, 0, PLAN_WORDS * sizeof *words);
-    words[0] = (uint64_t)plan->passes;
+    words[0] = plan->passes;
     words[1] = (uint64_t)plan->ranks;
     words[2] = (uint64_t)plan->regions;
     words[3] = (uint64_t)plan->tasks;
@@ -145,7 +145,7 @@ bool plan_of_words(const uint64_t *words, struct plan *plan) {
     if (words[0] > MAX_PASSES || !lies(words[1], MAX_RANKS) || !lies(words[2], MAX_REGIONS) ||
         !lies(words[3], MAX_TASKS))
         return false;
-    plan->passes = (int)words[0];
+    plan->passes = words[0];
     plan->ranks = (int)words[1];
     plan->regions = (int)words[2];
     plan->tasks = (int)words[3];

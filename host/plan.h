@@ -7,8 +7,9 @@
 #include <stdbool.h>
 #include <stdint.h>
 
+#define MAX_PASSES UINT64_C(1000000000000)
+
 enum {
-    MAX_PASSES = 1000000,
     MAX_RANKS = 16,
     MAX_REGIONS = 128,
     MAX_TASKS = 128,
@@ -33,7 +34,8 @@ struct task {
 };
 
 struct plan {
-    int passes, ranks, regions, tasks;
+    uint64_t passes;
+    int ranks, regions, tasks;
     uint64_t start[MAX_REGIONS];
     struct task task[MAX_TASKS];
 };

@@ -6,8 +6,6 @@
 
 #include "reading.h"
 
-enum { FEW_PASSES = 100 };
-
 /* A random text of a plan that can be played in a moment. */
 static size_t random_text(struct play *play, struct rng *rng, char *text) {
     do
@@ -38,7 +36,7 @@ static bool take_graph(struct play *play) {
     taskiter_number total = taskiter_total(play->words, TASKITER_PLAN_WORDS);
     play->items = (int)n.number;
     play->edges = (int)m.number;
-    play->total = (long)total.number;
+    play->total = total.number;
     for (int a = 0, task = -1; a < play->items; a++)
         play->task[a] = task += TASKITER_ITEM_KIND(play->item[a]) == 0;
     return n.refusal == 0 && m.refusal == 0 && total.refusal == 0;
@@ -72,7 +70,7 @@ int play_rank(const struct play *play, int item) {
 }
 
 /* Counts a step; one that is accepted has the word of its pass in the unrolled loop. */
-static uint64_t count_step(struct play *play, int item, int *passes, taskiter_answer answer) {
+static uint64_t count_step(struct play *play, int item, uint64_t *passes, taskiter_answer answer) {
     if (answer.refusal != 0) {
         play->refused++;
         return answer.refusal;
@@ -97,11 +95,11 @@ uint64_t play_finish(struct play *play, int item) {
 }
 
 /* Two steps for each pass of each item, by the items' numbers. */
-static long own_steps(const struct play *play) {
-    long steps = 0;
+static uint64_t own_steps(const struct play *play) {
+    uint64_t steps = 0, passes = play->plan.passes;
     for (int a = 0; a < play->items; a++) {
-        int own = play->plan.passes - TASKITER_ITEM_FEWER(play->item[a]);
-        steps += own > 0 ? 2L * own : 0;
+        uint64_t fewer = TASKITER_ITEM_FEWER(play->item[a]);
+        steps += passes > fewer ? 2 * (passes - fewer) : 0;
     }
     return steps;
 }
@@ -116,6 +114,6 @@ int play_end(struct play *play) {
     }
     loop_end(&play->loop);
     play->differ += play->steps != play->total || play->total != own_steps(play);
-    printf("%ld differ from the unrolled loop\n", play->differ);
+    printf("%" PRIu64 " differ from the unrolled loop\n", play->differ);
     return play->differ == 0 ? 0 : 1;
 }

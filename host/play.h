@@ -16,8 +16,9 @@ struct play {
     uint16_t item[TASKITER_MAX_ITEMS];
     uint32_t edge[TASKITER_EDGE_NUMBERS];
     int items, edges;
-    int task[TASKITER_MAX_ITEMS], started[TASKITER_MAX_ITEMS], finished[TASKITER_MAX_ITEMS];
-    long total, steps, refused, differ;
+    int task[TASKITER_MAX_ITEMS];
+    uint64_t started[TASKITER_MAX_ITEMS], finished[TASKITER_MAX_ITEMS];
+    uint64_t total, steps, refused, differ;
     struct plan plan;
     struct loop loop;
 };

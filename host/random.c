@@ -2,6 +2,7 @@
    one, by trying starts and finishes of any item until the loop is complete. Prints the steps
    taken, the tries refused and the values. Exit status 0 where each word and value is the unrolled
    loop's. */
+#include <inttypes.h>
 #include <stdio.h>
 #include <stdlib.h>
 
@@ -19,6 +20,7 @@ int main(int argc, char **argv) {
         else
             play_finish(&play, item);
     }
-    printf("items %d\nsteps %ld\nrefused tries %ld\n", play.items, play.steps, play.refused);
+    printf("items %d\nsteps %" PRIu64 "\nrefused tries %" PRIu64 "\n", play.items, play.steps,
+           play.refused);
     return play_end(&play);
 }

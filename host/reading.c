@@ -144,7 +144,7 @@ static void take(struct reader *reader, const struct line *line) {
     switch (line->record) {
     case LOOP:
         *plan = (struct plan){
-            .passes = (int)n[0].value, .ranks = (int)n[1].value, .regions = (int)n[2].value};
+            .passes = n[0].value, .ranks = (int)n[1].value, .regions = (int)n[2].value};
         break;
     case START:
         plan->start[n[0].value] = n[1].value;

@@ -1,6 +1,5 @@
 /* The groups of stress that play plans, and what the groups share. */
 #include <inttypes.h>
-#include <limits.h>
 #include <stdlib.h>
 #include <string.h>
 
@@ -90,18 +89,18 @@ struct lengths draw_enough(struct rng *rng) {
 struct order {
     struct loop loop;
     int blind, starts, pick;
-    long steps;
+    uint64_t steps;
 };
 
 /* An accepted step has the word of the unrolled loop. */
 static void compare_word(struct trial *trial, struct order *order, enum call call, int item,
                          uint64_t word) {
-    int pass = (int)trial->expected.counts[call == START_CALL ? item : MAX_ITEMS + item] - 1;
+    uint64_t pass = trial->expected.counts[call == START_CALL ? item : MAX_ITEMS + item] - 1;
     uint64_t expected = loop_word(&order->loop, pass, trial->shape.graph.item[item].task);
     order->steps++;
     if (word != expected)
-        differ(trial, "item %d has %" PRIu64 " in pass %d, the unrolled loop %" PRIu64, item, word,
-               pass, expected);
+        differ(trial, "item %d has %" PRIu64 " in pass %" PRIu64 ", the unrolled loop %" PRIu64,
+               item, word, pass, expected);
 }
 
 int find_free(struct trial *trial, struct rng *rng, int pick, enum call call) {
@@ -150,9 +149,9 @@ static void take_blind(struct trial *trial, struct rng *rng, struct order *order
 /* At the end the steps are as many as the total says, and the results are the final numbers. */
 static void compare_end(struct trial *trial, struct order *order) {
     const struct plan *plan = &trial->shape.plan;
-    long expected = (long)model_total(&trial->shape, PLAN_WORDS).word;
+    uint64_t expected = model_total(&trial->shape, PLAN_WORDS).word;
     if (order->steps != expected)
-        differ(trial, "%ld steps were accepted, expected %ld", order->steps, expected);
+        differ(trial, "%" PRIu64 " steps were accepted, expected %" PRIu64, order->steps, expected);
     for (int g = 0; g < plan->regions; g++) {
         uint64_t word = try_call(trial, RESULT_CALL, least, (uint64_t)g).word;
         if (word != loop_final(&order->loop, g))
@@ -164,7 +163,7 @@ static void compare_end(struct trial *trial, struct order *order) {
 /* Plays the plan in the memory from its opening to the end, or so many steps of it. Calls on
    damaged plans and counts, and with slices too short, come before the opening and between the
    steps. */
-static void play_plan(struct trial *trial, struct rng *rng, long most) {
+static void play_plan(struct trial *trial, struct rng *rng, uint64_t most) {
     static const int parts[] = {5, 50, 95};
     struct order order = {.blind = parts[draw_below(rng, 3)] / 2,
                           .starts = parts[draw_below(rng, 3)],
@@ -189,13 +188,12 @@ static void play_plan(struct trial *trial, struct rng *rng, long most) {
     loop_end(&order.loop);
 }
 
-/* Some plans are opened again in the midst of a play. Of a million passes only some steps are
-   played. */
+/* Some plans are opened again in the midst of a play. Of many passes only some steps are played. */
 void steps_group(struct trial *trial, struct rng *rng) {
     put_drawn_plan(trial, rng);
     if (draw_below(rng, 4) == 0)
-        play_plan(trial, rng, draw_below(rng, FEW_STEPS));
-    play_plan(trial, rng, trial->shape.plan.passes < MAX_PASSES / 2 ? LONG_MAX : FEW_STEPS);
+        play_plan(trial, rng, (uint64_t)draw_below(rng, FEW_STEPS));
+    play_plan(trial, rng, trial->shape.plan.passes <= FEW_PASSES ? UINT64_MAX : FEW_STEPS);
 }
 
 /* A call as a word. A number that no such word has becomes a smaller one. */
@@ -291,7 +289,7 @@ static void try_passes(struct trial *trial) {
     uint64_t steps = 0, total = model_total(&trial->shape, PLAN_WORDS).word;
     for (int a = 0; a < graph->items; a++) {
         const struct item *item = &graph->item[a];
-        steps += 2 * (uint64_t)own_passes(&trial->shape.plan, item);
+        steps += 2 * own_passes(&trial->shape.plan, item);
         int receive = item->kind == SEND ? a + 1 : a;
         bool wrapped = item->kind != TASK && !read_in_pass(graph, receive);
         if (item->fewer != wrapped)
@@ -325,7 +323,7 @@ static void *room(size_t size) {
 /* Slices of exactly these lengths, which hold nothing yet. */
 static struct slices bare_slices(struct lengths lengths) {
     return (struct slices){room(lengths.plan * sizeof(uint64_t)),
-                           room(lengths.counts * sizeof(uint32_t)),
+                           room(lengths.counts * sizeof(uint64_t)),
                            room(lengths.values * sizeof(uint64_t))};
 }
 

@@ -10,11 +10,12 @@
    refusal was met, and one random plan in 64 has transfers of each of these kinds; 1 where not, and
    where the runtime has another version than its header.
 
-   stress --control answer|word|edge|line|reply|byte|total|item|mean [SEED [PLANS]] is a run in
-   which one answer, one word of the lent state after a call, one edge, one line number, one word of
-   a list's answers, one byte of a written text, one total of steps, one item's number or one mean
-   that is known is changed before it is compared. It has to end with the difference reported and
-   status 1. The status is 2 where it is not reported. */
+   stress --control answer|word|edge|line|reply|byte|total|item|mean|count [SEED [PLANS]] is a run
+   in which one answer, one word of the lent state after a call, one edge, one line number, one word
+   of a list's answers, one byte of a written text, one total of steps, one item's number, one mean
+   that is known or one count above 2^32, which loses its upper half, is changed before it is
+   compared. It has to end with the difference reported and status 1. The status is 2 where it is
+   not reported. */
 #include <inttypes.h>
 #include <stdio.h>
 #include <stdlib.h>
@@ -92,6 +93,7 @@ static void run_groups(struct count *all) {
     run_group("short", short_group, all->each, all);
     run_group("bare", bare_group, all->each, all);
     run_group("means", means_group, all->each, all);
+    run_group("passes", passes_group, all->each, all);
     print_line("all", all->plans, all->calls, all->texts, all->answered);
     print_traits(all);
 }
@@ -100,8 +102,8 @@ static void run_groups(struct count *all) {
    the change; one of them is drawn. Answers false where it names none. */
 static bool take_control(struct count *all, const char *name) {
     static const char *const names[CHANGES] = {"",     "answer", "word", "edge", "line", "reply",
-                                               "byte", "total",  "item", "mean"};
-    static const int chances[CHANGES] = {0, 150, 150, 1, 16, 16, 8, 2, 1, 1};
+                                               "byte", "total",  "item", "mean", "count"};
+    static const int chances[CHANGES] = {0, 150, 150, 1, 16, 16, 8, 2, 1, 1, 4};
     struct control *control = &all->control;
     for (int change = NO_CHANGE + 1; change < CHANGES; change++)
         if (strcmp(name, names[change]) == 0) {
@@ -146,8 +148,8 @@ int main(int argc, char **argv) {
     if (argc > first + 1)
         all.each = strtol(argv[first + 1], NULL, 10);
     if (all.each < 1 || all.each > MOST_PLANS || (controlled && !take_control(&all, argv[2]))) {
-        fprintf(stderr, "usage: stress [--control answer|word|edge|line|reply|byte|total|item] "
-                        "[SEED [PLANS]]\n");
+        fprintf(stderr, "usage: stress [--control answer|word|edge|line|reply|byte|total|item|mean|"
+                        "count] [SEED [PLANS]]\n");
         return 2;
     }
     if (!same_version())

@@ -1,4 +1,5 @@
 /* The group of stress that reads texts. */
+#include <inttypes.h>
 #include <stdio.h>
 #include <string.h>
 
@@ -94,8 +95,12 @@ static size_t change_number(struct rng *rng, uint8_t *text, size_t length, size_
                                           "127",
                                           "128",
                                           "129",
-                                          "1000000",
                                           "1000001",
+                                          "4294967295",
+                                          "4294967296",
+                                          "4294967297",
+                                          "1000000000000",
+                                          "1000000000001",
                                           "18446744073709551615",
                                           "18446744073709551616",
                                           "99999999999999999999",
@@ -243,21 +248,32 @@ static void try_limits(struct trial *trial, struct rng *rng) {
 }
 
 /* The cases that the paper lists without a star, by the numbers that they turn on, with the answers
-   that it gives. The last task is open or not. */
+   that it gives; among them some more numbers of passes. The last task is open or not. */
 static const struct {
-    int passes, ranks, accesses, tasks;
+    uint64_t passes;
+    int ranks, accesses, tasks;
     bool open;
     struct reading reading;
 } listed[] = {
-    {1000000, 16, 0, 1, false, {0, 0}}, {1000001, 16, 0, 1, false, {3, 1}},
-    {1000000, 17, 0, 1, false, {3, 1}}, {1, 1, 8, 1, false, {0, 0}},
-    {1, 1, 9, 1, false, {10, 11}},      {1, 1, 0, 128, false, {0, 0}},
-    {1, 1, 0, 129, false, {10, 258}},   {1, 1, 0, 1, true, {7, 3}},
+    {1000000000000, 16, 0, 1, false, {0, 0}},
+    {1000000000001, 16, 0, 1, false, {3, 1}},
+    {1000000000000, 17, 0, 1, false, {3, 1}},
+    {1000000, 1, 0, 1, false, {0, 0}},
+    {1000001, 1, 0, 1, false, {0, 0}},
+    {4294967295, 1, 0, 1, false, {0, 0}},
+    {4294967296, 1, 0, 1, false, {0, 0}},
+    {4294967297, 1, 0, 1, false, {0, 0}},
+    {UINT64_MAX, 1, 0, 1, false, {3, 1}},
+    {1, 1, 8, 1, false, {0, 0}},
+    {1, 1, 9, 1, false, {10, 11}},
+    {1, 1, 0, 128, false, {0, 0}},
+    {1, 1, 0, 129, false, {10, 258}},
+    {1, 1, 0, 1, true, {7, 3}},
 };
 
 /* The text of case k. */
 static int put_listed(char *text, int k) {
-    int at = sprintf(text, "loop\t%d\t%d\t9\n", listed[k].passes, listed[k].ranks);
+    int at = sprintf(text, "loop\t%" PRIu64 "\t%d\t9\n", listed[k].passes, listed[k].ranks);
     for (int i = 0; i < listed[k].tasks; i++) {
         at += sprintf(text + at, "begin\t0\t1\t0\n");
         for (int g = 0; g < listed[k].accesses; g++)
@@ -277,8 +293,12 @@ static void try_listed(struct trial *trial, struct rng *rng, const char *text, i
 
 void paper_group(struct trial *trial, struct rng *rng) {
     static char text[TEXT_ROOM];
-    for (int k = 0; k < (int)(sizeof listed / sizeof *listed); k++)
+    for (int k = 0; k < (int)(sizeof listed / sizeof *listed); k++) {
         try_listed(trial, rng, text, put_listed(text, k), listed[k].reading);
+        if (listed[k].reading.refusal == 0 && trial->lent.plan[0] != listed[k].passes)
+            differ(trial, "the plan has %" PRIu64 " passes, its text %" PRIu64, trial->lent.plan[0],
+                   listed[k].passes);
+    }
     for (int k = 0; k < 2; k++)
         try_listed(trial, rng, text, 0, (struct reading){2, 1});
 }

@@ -19,10 +19,9 @@ const struct lengths least = {PLAN_WORDS, COUNTS, VALUES};
 
 static const char *const call_names[CALLS] = {"open", "start", "finish", "result"};
 
-static const char *const change_names[CHANGES] = {"nothing", "an answer", "a word",
-                                                  "an edge", "a line",    "a reply",
-                                                  "a byte",  "a total",   "an item",
-                                                  "a mean"};
+static const char *const change_names[CHANGES] = {"nothing", "an answer", "a word", "an edge",
+                                                  "a line",  "a reply",   "a byte", "a total",
+                                                  "an item", "a mean",    "a count"};
 
 void differ(const struct trial *trial, const char *form, ...) {
     va_list rest;
@@ -69,7 +68,7 @@ static void change_state(struct trial *trial) {
         return;
     int at = draw_below(&control->rng, COUNTS + VALUES);
     if (at < COUNTS)
-        trial->lent.counts[at] = (uint32_t)flipped(control, trial->lent.counts[at], 32);
+        trial->lent.counts[at] = flipped(control, trial->lent.counts[at], 64);
     else
         trial->lent.values[at - COUNTS] = flipped(control, trial->lent.values[at - COUNTS], 64);
 }
@@ -112,6 +111,10 @@ static void change_byte(struct trial *trial, uint8_t *text, uint64_t length) {
 
 uint64_t with_changed_mean(struct trial *trial, uint64_t mean) {
     return makes_change(trial, CHANGED_MEAN) ? flipped(trial->control, mean, 64) : mean;
+}
+
+uint64_t with_cut_count(struct trial *trial, uint64_t count) {
+    return count > UINT32_MAX && makes_change(trial, CHANGED_COUNT) ? (uint32_t)count : count;
 }
 
 void count_answer(struct trial *trial, uint64_t refusal) {

@@ -13,7 +13,8 @@ enum { LAST_REFUSAL = 19, ITEM_ROOM = MAX_ITEMS, EDGE_ROOM = 3 * MAX_EDGES, LIST
 
 /* What a control run changes once, between the runtime and the comparison: an answer, a word of the
    lent state after a call, an edge, the line that reading answers, a word of a list's answers, a
-   byte of a written text, a total of steps, an item's number, or a mean that is known. */
+   byte of a written text, a total of steps, an item's number, a mean that is known, or a count
+   above 2^32. */
 enum change {
     NO_CHANGE,
     CHANGED_ANSWER,
@@ -25,6 +26,7 @@ enum change {
     CHANGED_TOTAL,
     CHANGED_ITEM,
     CHANGED_MEAN,
+    CHANGED_COUNT,
     CHANGES
 };
 
@@ -65,7 +67,7 @@ struct trial {
 /* Slices to be lent. */
 struct slices {
     uint64_t *plan;
-    uint32_t *counts;
+    uint64_t *counts;
     uint64_t *values;
 };
 
@@ -93,6 +95,9 @@ void put_word(struct trial *trial, int word, uint64_t value);
 
 /* A mean that is known, as it is or, in a control run, with a bit changed. */
 uint64_t with_changed_mean(struct trial *trial, uint64_t mean);
+
+/* A count, as it is or, in a control run, without its upper half, which is not 0. */
+uint64_t with_cut_count(struct trial *trial, uint64_t count);
 
 /* Counts the answer of a call. */
 void count_answer(struct trial *trial, uint64_t refusal);

@@ -5,6 +5,7 @@
    The calls come one after another. Prints the steps taken, the tries refused, the most items that
    ran at once, the ticks and the values. Exit status 0 where each word and value is the unrolled
    loop's. */
+#include <inttypes.h>
 #include <stdio.h>
 #include <stdlib.h>
 
@@ -87,7 +88,8 @@ static void work(int w) {
 /* Runs ticks until all steps are taken and answers their number. In each tick the workers come from
    a random one on. */
 static long run_ticks(void) {
-    long ticks = 0, steps = -1;
+    long ticks = 0;
+    uint64_t steps = UINT64_MAX;
     for (; play.steps < play.total; ticks++) {
         if (running == 0 && play.steps == steps) {
             printf("no item runs, and none can be started\n");
@@ -112,7 +114,7 @@ int main(int argc, char **argv) {
     for (int a = 0; a < play.items; a++)
         put_item(a);
     long ticks = run_ticks();
-    printf("items %d\nsteps %ld\nrefused tries %ld\nat once %d\nticks %ld\n", play.items,
-           play.steps, play.refused, most_running, ticks);
+    printf("items %d\nsteps %" PRIu64 "\nrefused tries %" PRIu64 "\nat once %d\nticks %ld\n",
+           play.items, play.steps, play.refused, most_running, ticks);
     return play_end(&play);
 }

@@ -19,7 +19,7 @@ int write_tasks(const struct plan *plan, char *text) {
 }
 
 int write_text(const struct plan *plan, char *text) {
-    int at = sprintf(text, "loop\t%d\t%d\t%d\n", plan->passes, plan->ranks, plan->regions);
+    int at = sprintf(text, "loop\t%" PRIu64 "\t%d\t%d\n", plan->passes, plan->ranks, plan->regions);
     for (int g = 0; g < plan->regions; g++)
         if (plan->start[g] != 0)
             at += sprintf(text + at, "start\t%d\t%" PRIu64 "\n", g, plan->start[g]);

@@ -67,7 +67,7 @@ extern "C" {
    names. So a host asks once, before its other calls, whether taskiter_version answers
    TASKITER_VERSION: then the runtime that it is linked with has the version of the header that it
    was compiled with. CHANGELOG.md says what each version changes. */
-#define TASKITER_VERSION 3
+#define TASKITER_VERSION 4
 uint64_t taskiter_version(void);
 
 /* A text has at most so many bytes. It has no NUL at its end: one that is counted is a line not in
@@ -77,15 +77,15 @@ uint64_t taskiter_version(void);
 /* The least lengths of the lent slices, in elements: the same for all plans. What lies behind them
    is neither read nor changed. */
 #define TASKITER_PLAN_WORDS 1668 /* uint64_t: 13,344 bytes */
-#define TASKITER_COUNTS 1280     /* TASKITER_COUNT_TYPE: 5,120 bytes */
+#define TASKITER_COUNTS 1280     /* TASKITER_COUNT_TYPE: 10,240 bytes */
 #define TASKITER_VALUES 3328     /* uint64_t: 26,624 bytes */
 
 /* The longest text that taskiter_write writes, in bytes. A text slice of this length is enough for
    every plan; a shorter one is enough for a plan whose text it holds. */
-#define TASKITER_TEXT_BYTES 18726
+#define TASKITER_TEXT_BYTES 18732
 
-/* The type of a count of passes. Hosts use this name. */
-#define TASKITER_COUNT_TYPE uint32_t
+/* The type of a count of passes: a plan has at most 1,000,000,000,000. Hosts use this name. */
+#define TASKITER_COUNT_TYPE uint64_t
 
 /* No plan has more items than this: their numbers lie below it. */
 #define TASKITER_MAX_ITEMS 640

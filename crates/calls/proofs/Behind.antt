@@ -8,7 +8,7 @@ use mathlib.Core.List.{List, []}
 use mathlib.Core.Option.{Option, none, some}
 use native.Mathlib.Numerals.{add-one}
 use native.Mathlib.Omega.{arith}
-use borrow.Author.Tests.{eqb-true, ltb-true, eq-eqb, ne-eqb, lt-ltb, le-ltb, le-leb, not-true, not-false}
+use borrow.Author.Tests.{eqb-true, ltb-true, leb-true, eq-eqb, ne-eqb, lt-ltb, le-ltb, le-leb, not-true, not-false}
 use lib.Dec.{eqb, ltb, leb}
 use lib.ListN.{length, getD, set, take, drop, length-drop}
 use lib.Seq.{take-all, getD-drop}
@@ -29,9 +29,10 @@ use Rattle.plan.specs.Limits.{maxPasses}
 use Rattle.plan.specs.Sizes.{countWords, valueWords, firstFinished, firstHeld}
 use Rattle.plan.specs.Layout.{planWords, bodyOf, passesOf, regionsOf}
 use Rattle.plan.specs.Code.{codeFewer}
+use Rattle.plan.specs.Counts.{topBit}
 use Rattle.graph.specs.Table.{Graph}
 use Rattle.graph.specs.Answers.{refusalOf, planBody, isItem}
-use Rattle.graph.proofs.Lookup.{code-passes}
+use Rattle.graph.proofs.Lookup.{fewer-few, code-passes}
 use Rattle.steps.specs.State.{stateOf}
 use Rattle.steps.specs.Answers.{Left, countOk, isComplete, startTests, finishTests, formedCounts, longSlices, callRefusal, refused}
 use Rattle.steps.specs.Answers.{started, startOf, finished, finishOf, shown, resultOf, isCopy, isSlot, isHeld, openOf}
@@ -42,6 +43,15 @@ use Rattle.calls.specs.declared.Answer.{Answer}
 use Rattle.calls.specs.Told.{told}
 use Rattle.calls.specs.Doors.{Clear}
 use Rattle.calls.proofs.Counting.{countsBelow}
+
+-- the finished passes, as they are lent
+abbrev lent-finished : List ℕ → List ℕ
+lent-finished C = take (length C - firstFinished) (drop firstFinished C)
+
+lent-at : (C : List ℕ) (b : ℕ) → getD (lent-finished C) b 0 ≡ getD C (firstFinished + b) 0
+lent-at C b =
+    ap (λ (l : List ℕ). getD l b 0) (take-all (length C - firstFinished) (drop firstFinished C) (omega (arith, length-drop firstFinished C)))
+    ∙ getD-drop firstFinished C b 0
 
 -- a result does not depend on the counts
 pub result-apart : (B : Body) (C D W : List ℕ) (g : ℕ) → regionResult B (stateOf C W) g ≡ regionResult B (stateOf D W) g
@@ -80,6 +90,9 @@ module _ (w table : List ℕ) (n : ℕ) (G : Graph w table n) where
   pub found-at : (a code : ℕ) → a < n → code ≡ getD table a 0 → Found w a code
   found-at a code l e = record { plan = graph-formed; below = omega (arith, G .count); coded = e ∙ G .each a l }
 
+  pub codes-few : (a : ℕ) → a < n → codeFewer (getD table a 0) ≤ 1
+  codes-few a l = fewer-few w table n G a l (getD table a 0) refl
+
   -- the passes of an item, by its code
   pub own-passes : (passes : ℕ) → passes ≡ passesOf w → (a : ℕ) → a < n → (own : ℕ) → own ≡ passes - codeFewer (getD table a 0) → own ≡ itemPasses (bodyOf w) a
   own-passes passes p a l own e = e ∙ (ap (λ (k : ℕ). k - codeFewer (getD table a 0)) p ∙ code-passes w table n G a l (getD table a 0) refl)
@@ -115,6 +128,15 @@ module _ (w C table : List ℕ) (n : ℕ) (K : Clear w C table n) (W : List ℕ)
   -- only the number is left to be tested
   call-is : (t : Bool) → callRefusal w C W t ≡ refusalOf true true t
   call-is t = rw (long w table n G C W (K .room) v, formed-counts, whole w table n G, G .formed)
+
+  finished-few : (a : ℕ) → a < n → getD C (firstFinished + a) 0 ≤ maxPasses
+  finished-few a l =
+      let h = and-true (leb (getD C (firstFinished + a) 0) (itemPasses (bodyOf w) a)) _ (K .counts-ok a l) .0 in
+      omega (arith, leb-true (getD C (firstFinished + a) 0) (itemPasses (bodyOf w) a) h, passes-most w table n G)
+
+  -- what is asked of the counts before the waits are tested
+  pub lent-few : (a : ℕ) → a < n → getD C a 0 ≡ getD C (firstFinished + a) 0 → (getD C a 0 < topBit) × ((b : ℕ) → b < n → getD (lent-finished C) b 0 < topBit)
+  lent-few a l idle = (omega (arith, finished-few a l), λ b k. omega (arith, lent-at C b, finished-few b k))
 
   item-is : (item : ℕ) → isItem w item ≡ ltb item n
   item-is item = rw (whole w table n G, G .count)
@@ -161,14 +183,9 @@ module _ (w C table : List ℕ) (n : ℕ) (K : Clear w C table n) (W : List ℕ)
 
         -- the finished passes are lent from where they start
         module _ (idle : getD C a 0 ≡ getD C (firstFinished + a) 0) (met : Bool)
-            (m : met ≡ waitsTest (bodyOf w) (λ b. getD (take (length C - firstFinished) (drop firstFinished C)) b 0) (getD C a 0) a) where
-          lent-at : (b : ℕ) → getD (take (length C - firstFinished) (drop firstFinished C)) b 0 ≡ getD C (firstFinished + b) 0
-          lent-at b =
-              ap (λ (l : List ℕ). getD l b 0) (take-all (length C - firstFinished) (drop firstFinished C) (omega (arith, length-drop firstFinished C)))
-              ∙ getD-drop firstFinished C b 0
-
+            (m : met ≡ waitsTest (bodyOf w) (λ b. getD (lent-finished C) b 0) (getD C a 0) a) where
           met-is : met ≡ waitsTest (bodyOf w) (λ b. getD C (firstFinished + b) 0) (getD C a 0) a
-          met-is = m ∙ ap (λ (f : ℕ → ℕ). waitsTest (bodyOf w) f (getD C a 0) a) (fun-ext lent-at)
+          met-is = m ∙ ap (λ (f : ℕ → ℕ). waitsTest (bodyOf w) f (getD C a 0) a) (fun-ext (lent-at C))
 
           tests-are : startTests (bodyOf w) (stateOf C W) a ≡ cond met 0 16
           tests-are = rw (has-left, eq-eqb (getD C a 0) (getD C (firstFinished + a) 0) idle, ← met-is)

@@ -1,32 +1,108 @@
 -- Laws of the counts of started and finished passes. Those that end in -none, -more and -done are a
 -- loop's: before its first turn, over a turn, and after its last.
-use Prim.Native.Nat.{ℕ, _+_, _%_, _^_, _≤_, _<_}
-use mathlib.Core.Path.{_≡_, refl, sym, _∙_, ap}
-use mathlib.Core.Bool.{Bool, _&&_, _||_}
-use mathlib.Core.List.{List}
-use native.Mathlib.Decide.{decLt}
-use native.Mathlib.Nat.{mod-eq-of-lt}
+use Prim.Native.Nat.{ℕ, _+_, _-_, _^_, _≤_, _<_}
+use mathlib.Core.Path.{_≡_, refl, sym, _∙_, ap, ap₂}
+use mathlib.Core.Bool.{Bool, true, false, _&&_, _||_}
+use mathlib.Core.Logic.{⊎-elim}
+use mathlib.Core.List.{List, []}
+use native.Mathlib.Decide.{ℕ-discrete}
 use native.Mathlib.Omega.{arith}
-use borrow.Author.Tests.{lt-leb}
+use borrow.Author.Tests.{ltb-true, leb-true, eqb-true, lt-ltb, le-leb, eq-eqb, ne-eqb}
+use lib.Bits.{bitOr}
 use lib.Dec.{eqb, ltb, leb}
-use lib.ListN.{length, set}
+use lib.ListN.{length, getD, set}
+use Rattle.finite.specs.Below.{allBelow}
 use Rattle.finite.specs.Update.{replaced}
+use Rattle.finite.proofs.Tests.{test-ext, and-true, or-cases}
+use Rattle.finite.proofs.Below.{all-more}
+use Rattle.finite.proofs.Bitwise.{or-below, or-more}
 use Rattle.finite.proofs.Replaced.{replaced-set, replaced-where, replaced-nowhere}
 use Rattle.plan.specs.Limits.{maxPasses}
 use Rattle.plan.specs.Sizes.{firstFinished}
+use Rattle.plan.specs.Code.{codeFewer}
+use Rattle.plan.specs.Counts.{topBit, surplusOf}
+use Rattle.plan.proofs.Surplus.{surplus-none}
+use Rattle.steps.specs.State.{stateOf}
+use Rattle.steps.specs.Answers.{countOk}
 use Rattle.values.proofs.Opening.{within, ltb-none, ltb-next, within-none, within-next, or-both}
 
--- with no more passes finished than there are, one more does not wrap
-pub formed-wrapped : (started finished next passes : ℕ) → passes ≤ maxPasses → next ≡ (finished + 1) % 2 ^ 32 →
-    (leb finished passes && (eqb started finished || (eqb started next && ltb finished passes)))
-    ≡ (leb finished passes && (eqb started finished || (eqb started (finished + 1) && ltb finished passes)))
-formed-wrapped started finished next passes l e =
-    elim (decLt passes finished) [
-      | yes k ↦ rw (lt-leb finished passes k)
-      | no k ↦
-          let n : next ≡ finished + 1 = e ∙ mod-eq-of-lt (omega arith) in
-          ap (λ (z : ℕ). leb finished passes && (eqb started finished || (eqb started z && ltb finished passes))) n
-    ]
+-- the counts of an item are in form exactly if the words that are made of them are small
+formed-words : (started finished own : ℕ) → started < 2 ^ 64 → finished < 2 ^ 64 → own ≤ maxPasses →
+    (ltb (surplusOf started finished) 2 && ltb (bitOr finished (surplusOf own started)) topBit)
+    ≡ (leb finished own && (eqb started finished || (eqb started (finished + 1) && ltb finished own)))
+formed-words s f o ls lf lo = ap (λ (b : Bool). ltb (surplusOf s f) 2 && b) (or-below 63 f (surplusOf o s)) ∙ test-ext small ok onward back
+  where
+    small : Bool
+    small = ltb (surplusOf s f) 2 && (ltb f topBit && ltb (surplusOf o s) topBit)
+
+    ok : Bool
+    ok = leb f o && (eqb s f || (eqb s (f + 1) && ltb f o))
+
+    onward : small ≡ true → ok ≡ true
+    onward h =
+        let p = and-true (ltb (surplusOf s f) 2) (ltb f topBit && ltb (surplusOf o s) topBit) h in
+        let q = and-true (ltb f topBit) (ltb (surplusOf o s) topBit) (p .1) in
+        let lead : surplusOf s f < 2 = ltb-true (surplusOf s f) 2 (p .0) in
+        let few : f < topBit = ltb-true f topBit (q .0) in
+        let left : surplusOf o s < topBit = ltb-true (surplusOf o s) topBit (q .1) in
+        elim (ℕ-discrete s f) [
+          | yes e ↦ rw (le-leb f o (omega arith), eq-eqb s f e)
+          | no n ↦ rw (le-leb f o (omega (arith, n)), ne-eqb s f n, eq-eqb s (f + 1) (omega (arith, n)), lt-ltb f o (omega (arith, n)))
+        ]
+
+    words : f ≤ s → s ≤ f + 1 → s ≤ o → small ≡ true
+    words a b c = rw (lt-ltb (surplusOf s f) 2 (omega arith), lt-ltb f topBit (omega arith), lt-ltb (surplusOf o s) topBit (omega arith))
+
+    back : ok ≡ true → small ≡ true
+    back h =
+        let p = and-true (leb f o) (eqb s f || (eqb s (f + 1) && ltb f o)) h in
+        let most : f ≤ o = leb-true f o (p .0) in
+        ⊎-elim
+        (λ e. let same = eqb-true s f e in words (omega arith) (omega arith) (omega arith))
+        (λ e. let q = and-true (eqb s (f + 1)) (ltb f o) e in one-more (eqb-true s (f + 1) (q .0)) (ltb-true f o (q .1)))
+        (or-cases (eqb s f) (eqb s (f + 1) && ltb f o) (p .1))
+      where
+        one-more : s ≡ f + 1 → f < o → small ≡ true
+        one-more e l = words (omega arith) (omega arith) (omega arith)
+
+-- two tests of joined words
+join-both : (p : ℕ → Bool) (i apart beyond lead rest : ℕ) → (ltb apart 2 && ltb beyond topBit) ≡ allBelow i p → (ltb lead 2 && ltb rest topBit) ≡ p i →
+    (ltb (bitOr apart lead) 2 && ltb (bitOr beyond rest) topBit) ≡ allBelow (i + 1) p
+join-both p i apart beyond lead rest h e =
+    ap₂ _&&_ (or-below 1 apart lead) (or-below 63 beyond rest)
+    ∙ (crossed (ltb apart 2) (ltb lead 2) (ltb beyond topBit) (ltb rest topBit) ∙ all-more p i (ltb apart 2 && ltb beyond topBit) (ltb lead 2 && ltb rest topBit) h e)
+  where
+    crossed : (a b c d : Bool) → ((a && b) && (c && d)) ≡ ((a && c) && (b && d))
+    crossed false b c d = refl
+    crossed true true c d = refl
+    crossed true false true d = refl
+    crossed true false false d = refl
+
+module _ (counts table : List ℕ) (passes : ℕ) where
+  -- the passes that item a has
+  abbrev own-at : ℕ → ℕ
+  own-at a = passes - codeFewer (getD table a 0)
+
+  -- the loop of `are_formed`
+  abbrev pub formedTo : ℕ → Bool
+  formedTo n = allBelow n (λ a. countOk (own-at a) (stateOf counts []) a)
+
+  pub formed-more : (a apart beyond own lead left : ℕ) → passes ≤ maxPasses → getD counts a 0 < 2 ^ 64 → getD counts (firstFinished + a) 0 < 2 ^ 64 →
+      (ltb apart 2 && ltb beyond topBit) ≡ formedTo a → own ≡ own-at a → lead ≡ surplusOf (getD counts a 0) (getD counts (firstFinished + a) 0) → left ≡ surplusOf own (getD counts a 0) →
+      (ltb (bitOr apart lead) 2 && ltb (bitOr beyond (bitOr (getD counts (firstFinished + a) 0) left)) topBit) ≡ formedTo (a + 1)
+  formed-more a apart beyond own lead left few ls lf h o e f =
+      join-both (λ a. countOk (own-at a) (stateOf counts []) a) a apart beyond lead (bitOr (getD counts (firstFinished + a) 0) left) h
+      (rw (e, f, o) (formed-words (getD counts a 0) (getD counts (firstFinished + a) 0) (own-at a) ls lf (omega arith)))
+
+  -- the loop of `are_complete`
+  abbrev pub completeTo : ℕ → Bool
+  completeTo n = allBelow n (λ a. eqb (getD counts (firstFinished + a) 0) (own-at a))
+
+  pub complete-more : (a missing own left : ℕ) → passes < 2 ^ 64 → getD counts (firstFinished + a) 0 < 2 ^ 64 →
+      ltb missing 1 ≡ completeTo a → own ≡ own-at a → left ≡ surplusOf own (getD counts (firstFinished + a) 0) → ltb (bitOr missing left) 1 ≡ completeTo (a + 1)
+  complete-more a missing own left few l h o e =
+      or-more 0 (λ a. eqb (getD counts (firstFinished + a) 0) (own-at a)) a missing left h
+      (rw (e, o) (surplus-none (own-at a) (getD counts (firstFinished + a) 0) (omega arith) l))
 
 -- both counts of each item below a
 abbrev pub countsBelow : ℕ → ℕ → Bool

@@ -1,6 +1,6 @@
 // The counts of started and finished passes: whether they are in form, and whether the loop is
 // complete; their opening.
-ghost use Prim.Native.Nat.{_+_, _-_, _≤_, _<_};
+ghost use Prim.Native.Nat.{ℕ, _+_, _-_, _≤_, _<_};
 ghost use mathlib.Core.Path.{_≡_};
 ghost use mathlib.Core.Bool.{_&&_, _||_};
 ghost use mathlib.Core.List.{[]};
@@ -15,50 +15,55 @@ ghost use Rattle.steps.specs.State.{stateOf};
 ghost use Rattle.steps.specs.Answers.{countOk};
 use plan::state::Count;
 use plan::state::FIRST_FINISHED;
+use plan::state::TOP_BIT;
 use plan::state::own_passes;
+use plan::state::surplus;
 
-// Whether the counts of an item with so many passes are in form: no more finished than it has, and
-// as many started, or one more with a pass left.
-fn is_formed(started: Count, finished: Count, passes: Count) -> bool
-    requires { ⌜ passes ≤ maxPasses ⌝ }
-    ensures { λ r. ⌜ r ≡ (leb finished passes && (eqb started finished || (eqb started (finished + 1) && ltb finished passes))) ⌝ }
-{
-    let next = std::num::wrapping_add_u32(finished, 1);
-    (finished <= passes) & ((started == finished) | ((started == next) & (finished < passes)))
-}
-
-// Whether the counts of all n items of a table are.
+// Whether the counts of all n items of a table are in form: no more finished than the item has
+// passes, and as many started, or one more with a pass left. `apart` joins the passes started and
+// not finished, 0 or 1 an item; `beyond` has its top bit clear while no count is too large.
 pub(crate) fn are_formed(counts: &[Count], table: &[u16], passes: Count, n: usize) -> bool
-    requires { ⌜ (countWords ≤ length (now counts)) × (n ≤ length (now table)) × (passes ≤ maxPasses) × (n ≤ maxItems) ⌝ }
+    requires { ⌜
+        (countWords ≤ length (now counts)) × (n ≤ length (now table)) × (passes ≤ maxPasses) × (n ≤ maxItems)
+        × ((a : ℕ) → a < n → codeFewer (getD (now table) a 0) ≤ 1)
+        ⌝ }
     ensures { λ r. ⌜
         r ≡ allBelow n (λ a. countOk (passes - codeFewer (getD (now (table .entry)) a 0)) (stateOf (now (counts .entry)) []) a)
         ⌝ }
 {
-    let mut formed = true;
+    let mut apart: u64 = 0;
+    let mut beyond: u64 = 0;
     let mut a: usize = 0;
     while a < n {
         let own = own_passes(passes, table[a]);
-        formed = formed & is_formed(counts[a], counts[FIRST_FINISHED + a], own);
+        let started = counts[a];
+        let finished = counts[FIRST_FINISHED + a];
+        apart = apart | surplus(started, finished);
+        beyond = beyond | (finished | surplus(own, started));
         a += 1;
     }
-    formed
+    (apart < 2) & (beyond < TOP_BIT)
 }
 
-// Whether all n items of a table have finished the passes that they have.
+// Whether all n items of a table have finished the passes that they have. `missing` joins the
+// differences.
 pub(crate) fn are_complete(counts: &[Count], table: &[u16], passes: Count, n: usize) -> bool
-    requires { ⌜ (countWords ≤ length (now counts)) × (n ≤ length (now table)) × (n ≤ maxItems) ⌝ }
+    requires { ⌜
+        (countWords ≤ length (now counts)) × (n ≤ length (now table)) × (n ≤ maxItems)
+        × ((a : ℕ) → a < n → codeFewer (getD (now table) a 0) ≤ 1)
+        ⌝ }
     ensures { λ r. ⌜
         r ≡ allBelow n (λ a. eqb (getD (now (counts .entry)) (firstFinished + a) 0) (passes - codeFewer (getD (now (table .entry)) a 0)))
         ⌝ }
 {
-    let mut complete = true;
+    let mut missing: u64 = 0;
     let mut a: usize = 0;
     while a < n {
         let own = own_passes(passes, table[a]);
-        complete = complete & (counts[FIRST_FINISHED + a] == own);
+        missing = missing | surplus(own, counts[FIRST_FINISHED + a]);
         a += 1;
     }
-    complete
+    missing < 1
 }
 
 // Both counts of each of n items to 0.

@@ -16,7 +16,7 @@ pub fn total_steps(plan: &[u64], table: &[u16; MAX_ITEMS], n: usize) -> u64
     let mut steps: u64 = 0;
     let mut a: usize = 0;
     while a < n {
-        let own = own_passes(passes, table[a]) as u64;
+        let own = own_passes(passes, table[a]);
         steps += 2 * own;
         a += 1;
     }

@@ -1,6 +1,6 @@
 // The calls, with as much of the lent slices as the script says, and what they answer, printed.
 use crate::numbers::behind;
-use crate::numbers::count_at;
+use crate::numbers::edge_at;
 use crate::numbers::set_word;
 use crate::numbers::word_at;
 use calls::Answer;
@@ -105,9 +105,9 @@ fn print_items(codes: &[u16], items: u64) {
 
 fn print_edge(edges: &[u32], k: usize) {
     let at = behind(k, behind(k, k));
-    let source = count_at(edges, at);
-    let target = count_at(edges, behind(at, 1));
-    print_three(b"edge", source, target, count_at(edges, behind(at, 2)));
+    let source = edge_at(edges, at);
+    let target = edge_at(edges, behind(at, 1));
+    print_three(b"edge", source, target, edge_at(edges, behind(at, 2)));
 }
 
 fn print_edges(edges: &[u32], n: u64) {

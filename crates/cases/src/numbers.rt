@@ -40,16 +40,16 @@ fn wide(x: u32) -> u64 {
     x as u64
 }
 
-pub(crate) fn count_at(counts: &[u32], at: usize) -> u64 {
-    if at < counts.len() {
-        return wide(counts[at]);
+pub(crate) fn edge_at(edges: &[u32], at: usize) -> u64 {
+    if at < edges.len() {
+        return wide(edges[at]);
     }
     0
 }
 
-pub(crate) fn set_count(counts: &mut [Count], at: usize, count: u64) {
+pub(crate) fn set_count(counts: &mut [Count], at: usize, count: Count) {
     if at < counts.len() {
-        counts[at] = (count % 4294967296) as Count;
+        counts[at] = count;
     }
 }
 

@@ -4,11 +4,14 @@ use mathlib.Core.Path.{_≡_, refl, sym, _∙_, ap, ap₂}
 use mathlib.Core.Bool.{Bool, true, false, cond, not, _&&_, _||_}
 use native.Mathlib.Nat.{mod-lt}
 use native.Mathlib.Omega.{arith}
-use lib.Bits.{bitAnd, bitOr, bitXor, and-block, or-block, xor-block, and-zero-l}
+use borrow.Author.Tests.{ltb-true, lt-ltb}
+use lib.Bits.{bitAnd, bitOr, bitXor, and-block, or-block, xor-block, and-zero-l, and-le-l, and-le-r, or-lt, or-add-and}
 use lib.Count.{ones, ones-cat}
-use lib.Dec.{eqb}
+use lib.Dec.{eqb, ltb}
 use lib.Pow.{pow-pos, split}
-use Rattle.finite.specs.Below.{countBelow, sumBelow}
+use Rattle.finite.specs.Below.{allBelow, countBelow, sumBelow}
+use Rattle.finite.proofs.Tests.{test-ext, and-true}
+use Rattle.finite.proofs.Below.{all-more}
 use Rattle.finite.proofs.Bits.{bitsBelow, bits-ext, bits-below, bits-of, bits-all, bit-low}
 
 abbrev digit : Bool → ℕ
@@ -102,3 +105,21 @@ ones-bits (suc n) p = ap ones (bits-top n p) ∙ (ones-cat n (digit (p n)) (bits
     digit-ones : (b : Bool) → ones (digit b) ≡ digit b
     digit-ones true = refl
     digit-ones false = refl
+
+-- two numbers joined by or lie below a power of two exactly if both do
+pub or-below : (k x y : ℕ) → ltb (bitOr x y) (2 ^ k) ≡ (ltb x (2 ^ k) && ltb y (2 ^ k))
+or-below k x y = test-ext (ltb (bitOr x y) (2 ^ k)) (ltb x (2 ^ k) && ltb y (2 ^ k)) apart joined
+  where
+    apart : ltb (bitOr x y) (2 ^ k) ≡ true → (ltb x (2 ^ k) && ltb y (2 ^ k)) ≡ true
+    apart h =
+        let l : bitOr x y < 2 ^ k = ltb-true (bitOr x y) (2 ^ k) h in
+        rw (lt-ltb x (2 ^ k) (omega (arith, or-add-and x y, and-le-r x y)), lt-ltb y (2 ^ k) (omega (arith, or-add-and x y, and-le-l x y)))
+
+    joined : (ltb x (2 ^ k) && ltb y (2 ^ k)) ≡ true → ltb (bitOr x y) (2 ^ k) ≡ true
+    joined h =
+        let both = and-true (ltb x (2 ^ k)) (ltb y (2 ^ k)) h in
+        lt-ltb (bitOr x y) (2 ^ k) (or-lt k x y (ltb-true x (2 ^ k) (both .0)) (ltb-true y (2 ^ k) (both .1)))
+
+-- a turn `all = all | x` of a loop: whether each number so far lies below a power of two
+pub or-more : (k : ℕ) (p : ℕ → Bool) (i all x : ℕ) → ltb all (2 ^ k) ≡ allBelow i p → ltb x (2 ^ k) ≡ p i → ltb (bitOr all x) (2 ^ k) ≡ allBelow (i + 1) p
+or-more k p i all x h e = or-below k all x ∙ all-more p i (ltb all (2 ^ k)) (ltb x (2 ^ k)) h e

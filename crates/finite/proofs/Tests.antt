@@ -6,7 +6,7 @@ use borrow.Author.Tests.{eqb-true, eq-eqb, lt-ltb, le-ltb}
 use lib.Dec.{eqb, ltb}
 use native.Mathlib.Decide.{decLt}
 use native.Mathlib.Omega.{arith}
-use Prim.Native.Nat.{ℕ, _+_, _-_}
+use Prim.Native.Nat.{ℕ, _+_}
 
 unfoldable pub true-or-false : (b : Bool) → (b ≡ true) ⊎ (b ≡ false)
 true-or-false true = inl refl
@@ -56,14 +56,6 @@ eqb-from n a b =
     test-ext (eqb (n + a) (n + b)) (eqb a b)
     (λ e. eq-eqb a b (omega (arith, eqb-true (n + a) (n + b) e)))
     (λ e. eq-eqb (n + a) (n + b) (omega (arith, eqb-true a b e)))
-
--- what is added on one side is taken off the other
-pub ltb-less : (x k n : ℕ) → ltb (x + k) n ≡ ltb x (n - k)
-ltb-less x k n =
-    elim (decLt (x + k) n) [
-      | yes l ↦ lt-ltb (x + k) n l ∙ sym (lt-ltb x (n - k) (omega arith))
-      | no l ↦ le-ltb (x + k) n (omega arith) ∙ sym (le-ltb x (n - k) (omega arith))
-    ]
 
 -- the test of the next number
 pub ltb-next : (x g : ℕ) → (x ≡ g → ⊥) → ltb x (g + 1) ≡ ltb x g

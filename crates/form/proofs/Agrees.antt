@@ -15,7 +15,7 @@ use Rattle.finite.proofs.Below.{all-at, all-of, any-at, any-never}
 use Rattle.kernels.proofs.Laws.{suits-kernel}
 use Rattle.plan.specs.Limits.{maxPasses, maxRanks, maxRegions, maxTasks, maxAccesses, maxKernel}
 use Rattle.plan.specs.Layout.{at, passesOf, ranksOf, regionsOf, tasksOf, startingOf, rankOf, kernelOf, accessesOf, accessAt, regionAt, planWords, rankIndex, taskWords, accessEnd}
-use Rattle.plan.specs.Form.{countsOk, valueOk, accessOk, restOk, usedOk, unusedOk, taskOk, wordsOk}
+use Rattle.plan.specs.Form.{countsOk, valueOk, accessOk, restOk, usedOk, unusedOk, taskOk, wordsOk, wordsWithin}
 use Rattle.plan.proofs.Facts.{Formed, formed}
 use Rattle.form.specs.Changes.{names, changeCount}
 use Rattle.form.specs.declared.words.Checked.{Checked}
@@ -169,7 +169,7 @@ module _ (w : List ℕ) where
         rw (eq-eqb _ _ (word-of-form j (omega arith)), eq-eqb _ _ (sym (ap (at w) e) ∙ word-of-form (half w + j) (omega arith)))
 
   agrees : countsOk w ≡ true → (tasksScanOk w && (behindRegionsOk w && behindTasksOk w)) ≡ wordsOk w
-  unfolding wordsOk
+  unfolding wordsWithin
   agrees h =
       test-ext (tasksScanOk w && (behindRegionsOk w && behindTasksOk w)) (countsOk w && (allBelow maxRegions (valueOk w) && allBelow maxTasks (taskOk w)))
       (λ e.
@@ -211,7 +211,7 @@ module _ (w : List ℕ) where
   answer-not r f e = rw f (record { formed = sym e; counts = refl })
 
   pub answer-counts : (t : Bool) (r : Checked) → t ≡ countsOk w → not t ≡ true → r ≡ record { ok = false; changes = 0 } → Answer w (r .ok) (r .changes)
-  unfolding wordsOk
+  unfolding wordsWithin
   answer-counts t r e z f = answer-not r f (rw (sym e ∙ not-true t z))
 
   module _ (t : Bool) (e : t ≡ countsOk w) (z : not t ≡ false) (s : Bool) (n : ℕ) (l : List ℕ) (k : Scanned (tasksScanOk w) (changeCount w) (kept w (tasksOf w)) s n l) where

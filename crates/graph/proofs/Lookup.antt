@@ -7,6 +7,7 @@ use lib.ListN.{getD}
 use Rattle.body.specs.Body.{Fits}
 use Rattle.body.specs.Items.{Item, task, send, receive, kindOf, fewer, itemAt, itemPasses}
 use Rattle.body.proofs.ItemList.{tasks-listed}
+use Rattle.body.proofs.Wrapped.{fewer-most}
 use Rattle.body.proofs.Accessed.{Known, item-known, rank-below}
 use Rattle.edges.specs.Tests.{kindAt, rankAt}
 use Rattle.plan.specs.Limits.{maxRanks, maxRegions}
@@ -56,6 +57,9 @@ module _ (w items : List ℕ) (n : ℕ) (G : Graph w items n) where
 
       pub code-fewer : codeFewer code ≡ fewer (bodyOf w) (itemAt (bodyOf w) a)
       code-fewer = omega (arith, code-is, kind-most (itemAt (bodyOf w) a), subject-below, rank-few)
+
+      pub fewer-few : codeFewer code ≤ 1
+      fewer-few = rw code-fewer (fewer-most (bodyOf w) (itemAt (bodyOf w) a))
 
       -- the item's own passes, from the plan's
       pub code-passes : passesOf w - codeFewer code ≡ itemPasses (bodyOf w) a

@@ -13,7 +13,7 @@ use Rattle.body.specs.Items.{itemCount, totalSteps}
 use Rattle.edges.specs.Rule.{Triple, AllEdges}
 pub use Rattle.plan.specs.Sizes.{maxItems, edgeWords}
 use Rattle.plan.specs.Layout.{planWords, bodyOf}
-use Rattle.plan.specs.Form.{inForm}
+use Rattle.plan.specs.Form.{formWithin, inForm}
 use Rattle.graph.specs.declared.Number.{Number}
 use Rattle.graph.specs.Table.{tableOf}
 
@@ -27,6 +27,10 @@ module _ (w : List ℕ) where
 
   abbrev pub formedPlan : Bool
   formedPlan = inForm (take planWords w)
+
+  -- the same where a plan may have at most so many passes
+  abbrev pub formedWithin : ℕ → Bool
+  formedWithin most = formWithin (take planWords w) most
 
   -- the body that the plan holds
   abbrev pub planBody : Body

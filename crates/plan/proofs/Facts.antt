@@ -18,7 +18,7 @@ use Rattle.kernels.specs.Kernels.{suits}
 use Rattle.body.specs.Body.{Fits}
 use Rattle.plan.specs.Limits.{maxPasses, maxRanks, maxRegions, maxTasks, maxAccesses, maxKernel}
 use Rattle.plan.specs.Layout.{at, passesOf, ranksOf, regionsOf, tasksOf, startingOf, rankOf, kernelOf, accessesOf, accessAt, regionAt, isRead, isWritten, bodyOf, taskWords, accessEnd, rankIndex}
-use Rattle.plan.specs.Form.{countsOk, valueOk, accessOk, restOk, usedOk, unusedOk, taskOk, wordsOk}
+use Rattle.plan.specs.Form.{countsOk, valueOk, accessOk, restOk, usedOk, unusedOk, taskOk, wordsOk, wordsWithin}
 
 -- what is known of task i, one that the plan has
 pub record Used (w : List ℕ) (i : ℕ) : Type 0 where
@@ -99,7 +99,7 @@ module _ (w : List ℕ) where
 
   -- the words that `wordsOk` accepts
   pub formed : wordsOk w ≡ true → Formed w
-  unfolding wordsOk
+  unfolding wordsWithin
   formed h =
       let c = both (countsOk w) _ h in
       let v = both (allBelow maxRegions (valueOk w)) (allBelow maxTasks (taskOk w)) (c .1) in

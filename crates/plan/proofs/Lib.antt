@@ -1,2 +1,4 @@
 pub mod Facts
 pub mod Zeros
+pub mod Within
+pub mod Surplus

@@ -18,16 +18,19 @@ pub record Words (w : List ℕ) : Type 0 where
   pub fits : (i : ℕ) → at w i ≤ maxWord
 
 module _ (w : List ℕ) where
-  -- passes, ranks, regions and tasks within their limits
-  abbrev pub countsOk : Bool
-  countsOk =
-      leb (passesOf w) maxPasses
+  -- passes, ranks, regions and tasks within their limits, with the limit `most` on passes
+  abbrev pub numbersWithin : ℕ → Bool
+  numbersWithin most =
+      leb (passesOf w) most
       && (leb 1 (ranksOf w)
       && (leb (ranksOf w) maxRanks
       && (leb 1 (regionsOf w)
       && (leb (regionsOf w) maxRegions
       && (leb 1 (tasksOf w)
       && leb (tasksOf w) maxTasks)))))
+
+  abbrev pub countsOk : Bool
+  countsOk = numbersWithin maxPasses
 
   -- where there is no region g, its word is 0
   abbrev pub valueOk : ℕ → Bool
@@ -62,8 +65,14 @@ module _ (w : List ℕ) where
   taskOk i = cond (ltb i (tasksOf w)) (usedOk i) (unusedOk i)
 
   -- all but the number of transfers
-  unfoldable pub wordsOk : Bool
-  wordsOk = countsOk && (allBelow maxRegions valueOk && allBelow maxTasks taskOk)
+  unfoldable pub wordsWithin : ℕ → Bool
+  wordsWithin most = numbersWithin most && (allBelow maxRegions valueOk && allBelow maxTasks taskOk)
+
+  abbrev pub wordsOk : Bool
+  wordsOk = wordsWithin maxPasses
+
+  abbrev pub formWithin : ℕ → Bool
+  formWithin most = wordsWithin most && leb (transferCount (bodyOf w)) maxTransfers
 
   unfoldable pub inForm : Bool
-  inForm = wordsOk && leb (transferCount (bodyOf w)) maxTransfers
+  inForm = formWithin maxPasses

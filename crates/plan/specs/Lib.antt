@@ -3,3 +3,4 @@ pub mod Sizes
 pub mod Layout
 pub mod Code
 pub mod Form
+pub mod Counts

@@ -4,8 +4,9 @@ use Prim.Native.Nat.{ℕ}
 abbrev pub maxBytes : ℕ
 maxBytes = 32768
 
+-- 10^12 since card 5 (paper 02); 1,000,000 before
 abbrev pub maxPasses : ℕ
-maxPasses = 1000000
+maxPasses = 1000000000000
 
 abbrev pub maxRanks : ℕ
 maxRanks = 16

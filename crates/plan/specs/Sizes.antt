@@ -38,4 +38,4 @@ resultWords = 128
 
 -- the longest written text of a plan, in bytes
 abbrev pub textBytes : ℕ
-textBytes = 18726
+textBytes = 18732

@@ -55,14 +55,7 @@ pub fn pass_count(plan: &[u64]) -> Count
     requires { ⌜ (planWords ≤ length (now plan)) × (passesOf (now plan) ≤ maxPasses) ⌝ }
     ensures { λ r. ⌜ (r ≡ passesOf (now (plan .entry))) × (r ≤ maxPasses) ⌝ }
 {
-    narrow_count(plan[PASSES])
-}
-
-fn narrow_count(x: u64) -> Count
-    requires { ⌜ x ≤ maxPasses ⌝ }
-    ensures { λ r. ⌜ r ≡ x ⌝ }
-{
-    x as Count
+    plan[PASSES]
 }
 
 pub fn ranks_of(plan: &[u64]) -> u64

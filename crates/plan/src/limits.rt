@@ -2,7 +2,7 @@
 // among them: `kernels::kernel_by` decides.
 pub const MAX_BYTES: usize = 32768;
 
-pub const MAX_PASSES: u64 = 1000000;
+pub const MAX_PASSES: u64 = 1000000000000;
 
 pub const MAX_RANKS: u64 = 16;
 

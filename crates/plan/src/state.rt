@@ -1,28 +1,34 @@
 // The layout of what is lent beside a plan, as in specs/Sizes.antt.
 ghost use Prim.Native.Nat.{_-_, _<_, _≤_};
 ghost use mathlib.Core.Path.{_≡_};
-ghost use lib.Dec.{ltb};
 ghost use Rattle.plan.specs.Sizes.{maxItems, valueWords, slotOf};
 ghost use Rattle.plan.specs.Code.{codeFewer};
+ghost use Rattle.plan.specs.Counts.{surplusOf};
 use crate::numbers::as_index;
 
 // A number of passes of an item.
-pub type Count = u32;
+pub type Count = u64;
 
-// The passes of an item, of a plan with so many: fewer where its code says so, and none below 0.
-pub fn own_passes(passes: Count, code: u16) -> Count
-    ensures { λ r. ⌜ r ≡ passes - codeFewer code ⌝ }
+// The least number with its top bit set. Every count in form lies below it. Words joined by `|` lie
+// below it exactly if each does.
+pub const TOP_BIT: u64 = 9223372036854775808;
+
+// x less y, modulo 2^64. Of counts below the top bit it has that bit set exactly if y is more.
+pub fn surplus(x: Count, y: Count) -> Count
+    ensures { λ r. ⌜ r ≡ surplusOf x y ⌝ }
 {
-    let fewer = (code / 8192) as Count;
-    if fewer < passes { passes - fewer } else { 0 }
+    std::num::wrapping_sub_u64(x, y)
 }
 
-// Whether an item has a pass left after so many: `own_passes` are more, tested with no branch.
-pub fn has_left(pass: Count, passes: Count, code: u16) -> bool
-    ensures { λ r. ⌜ r ≡ ltb pass (passes - codeFewer code) ⌝ }
+// The passes of an item, of a plan with so many: one fewer where its code says so. None below 0.
+pub fn own_passes(passes: Count, code: u16) -> Count
+    requires { ⌜ codeFewer code ≤ 1 ⌝ }
+    ensures { λ r. ⌜ r ≡ passes - codeFewer code ⌝ }
 {
-    let fewer = (code / 8192) as u64;
-    (pass as u64) + fewer < (passes as u64)
+    if passes == 0 {
+        return 0;
+    }
+    passes - (code / 8192) as Count
 }
 
 // Items that a plan can have: 128 tasks, and a send and a receive for each of 256 transfers.
@@ -49,7 +55,7 @@ pub const EDGE_WORDS: usize = 12672;
 pub const RESULTS: usize = 128;
 
 // The bytes of the longest written text.
-pub const TEXT_BYTES: usize = 18726;
+pub const TEXT_BYTES: usize = 18732;
 
 // The slot that a send or a receive, item a, works on.
 pub fn slot_of(kind: u64, a: usize) -> usize

@@ -8,6 +8,7 @@ use Rattle.finite.specs.Below.{anyBelow}
 use Rattle.finite.specs.Lists.{gather, mem, range, tabulate}
 use Rattle.body.specs.Transfers.{lastBefore, source, transferCount, transferred, transfersOf, wanted}
 use Rattle.kernels.specs.Kernels.{suits}
+use Rattle.text.specs.Ascii.{ascii}
 use Rattle.text.specs.Numbers.{numberOf, wellFormed}
 use Rattle.text.specs.Words.{keywordOf}
 use Rattle.reading.specs.Plan.{wordsOf}
@@ -40,6 +41,11 @@ named-twice : readOf (108 ∷ 111 ∷ 111 ∷ 112 ∷ 9 ∷ 50 ∷ 9 ∷ 50 ∷ 
     9 ∷ 48 ∷ 10 ∷ 111 ∷ 117 ∷ 116 ∷ 9 ∷ 48 ∷ 10 ∷ 101 ∷ 110 ∷ 100 ∷ 10 ∷ []) ≡ refused 6 4
 unfolding readOf numberOf wellFormed keywordOf mem
 named-twice = refl
+
+-- one pass more than the limit
+passes-beyond : readOf (ascii "loop\t1000000000001\t1\t1\n") ≡ refused 3 1
+unfolding readOf numberOf wellFormed keywordOf mem
+passes-beyond = refl
 
 -- an empty text
 empty : readOf [] ≡ refused 2 1

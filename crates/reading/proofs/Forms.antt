@@ -15,7 +15,7 @@ use Rattle.finite.proofs.Lists.{getD-tabulate, length-tabulate}
 use Rattle.finite.proofs.Tabulate.{distinct-tabulate, distinct-tabulate-at, map-tabulate, tabulate-ext, tabulate-list}
 use Rattle.finite.proofs.Tests.{and-intro, and-true, not-both}
 use Rattle.kernels.specs.Kernels.{suits}
-use Rattle.plan.specs.Form.{Words, accessOk, countsOk, restOk, taskOk, unusedOk, usedOk, valueOk, wordsOk}
+use Rattle.plan.specs.Form.{Words, accessOk, countsOk, restOk, taskOk, unusedOk, usedOk, valueOk, wordsOk, wordsWithin}
 use Rattle.plan.specs.Layout.{accessAt, accessesOf, at, constantOf, isRead, kernelOf, planWords, rankOf, ranksOf, regionAt, regionsOf, tasksOf}
 use Rattle.plan.specs.Layout.{rankIndex, kernelIndex, constantIndex, accessesIndex, accessIndex, taskWords, accessEnd}
 use Rattle.plan.specs.Limits.{maxPasses, maxRanks, maxRegions, maxTasks}
@@ -203,7 +203,7 @@ pub record Tests (w : List ℕ) : Type 0 where
   pub each : allBelow maxTasks (taskOk w) ≡ true
 
 pub tests : (w : List ℕ) → wordsOk w ≡ true → Tests w
-unfolding wordsOk
+unfolding wordsWithin
 tests w h =
     let a = and-true (countsOk w) _ h in
     let b = and-true (allBelow maxRegions (valueOk w)) (allBelow maxTasks (taskOk w)) (a .1) in
@@ -226,7 +226,7 @@ tests w h =
     }
 
 is-ok : (w : List ℕ) → Tests w → wordsOk w ≡ true
-unfolding wordsOk
+unfolding wordsWithin
 is-ok w t = rw (t .passes, t .some-rank, t .ranks, t .some-region, t .regions, t .some-task, t .tasks, t .values, t .each)
 
 -- words in form

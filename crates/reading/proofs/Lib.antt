@@ -21,3 +21,4 @@ pub mod Cases
 pub mod Numbers
 pub mod FirstFit
 pub mod Longest
+pub mod Within

@@ -20,7 +20,7 @@ use Rattle.reading.proofs.FirstFit.{read-answers, too-long}
 use Rattle.reading.proofs.Limits.{limits}
 use Rattle.reading.proofs.Round.{text-read}
 
-not-accepted : {X : Type 0} (n m : ℕ) (w : List ℕ) → refused n m ≡ accepted w → X
+pub not-accepted : {X : Type 0} (n m : ℕ) (w : List ℕ) → refused n m ≡ accepted w → X
 not-accepted n m w e = let z : _≡_ {A = ℕ} 0 1 = cc in absurd (omega arith)
 
 pub accepted-same : (v w : List ℕ) → accepted w ≡ accepted v → w ≡ v

@@ -40,10 +40,10 @@ text-length r l = omega (arith, length-append (line r) (10 ∷ textFrom l))
 start-length : (g v : ℕ) → v ≤ maxWord → length (line (Record.Start (Value g) (Value v))) ≤ 27 + length (digits (Value g))
 start-length g v h = omega (arith, pair-length (Value g) (Value v), digits-most 19 v (below v h))
 
-loop-length : (p q n : ℕ) → p ≤ maxPasses → q ≤ maxRanks → n ≤ maxRegions → length (line (Loop (Value p) (Value q) (Value n))) ≤ 19
+loop-length : (p q n : ℕ) → p ≤ maxPasses → q ≤ maxRanks → n ≤ maxRegions → length (line (Loop (Value p) (Value q) (Value n))) ≤ 25
 unfolding limit
 loop-length p q n a b c =
-    omega (arith, triple-length (Value p) (Value q) (Value n), digits-most 6 p (omega arith), digits-most 1 q (omega arith), digits-most 2 n (omega arith))
+    omega (arith, triple-length (Value p) (Value q) (Value n), digits-most 12 p (omega arith), digits-most 1 q (omega arith), digits-most 2 n (omega arith))
 
 begin-length : (q k c : ℕ) → q < maxRanks → k ≤ maxKernel → c ≤ maxWord → length (line (Begin (Value q) (Value k) (Value c))) ≤ 31
 unfolding limit

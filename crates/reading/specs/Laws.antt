@@ -2,19 +2,22 @@
 use Prim.Native.Nat.{ℕ, _≤_, _<_}
 use mathlib.Core.Path.{_≡_}
 use mathlib.Core.Bool.{true, false, cond}
-use mathlib.Core.Logic.{_↔_}
-use mathlib.Core.List.{List, []}
+use mathlib.Core.Logic.{_↔_, _⊎_}
+use mathlib.Core.List.{List, [], _∷_}
 use lib.Dec.{leb}
 use lib.ListN.{length, replicate}
 use Rattle.body.specs.Body.{Fits}
 use Rattle.body.specs.Transfers.{transferCount}
-use Rattle.text.specs.Records.{split}
+use Rattle.text.specs.declared.Number.{Number}
+use Rattle.text.specs.declared.Number.the-variants.{Value}
+use Rattle.text.specs.declared.Record.the-variants.{Loop}
+use Rattle.text.specs.Records.{recordOf, split}
 use Rattle.plan.specs.Form.{Words, inForm}
 use Rattle.plan.specs.Layout.{bodyOf, constantOf, kernelOf, passesOf, rankOf, ranksOf, readsOf, regionsOf, startingOf, tasksOf, writesOf}
 use Rattle.plan.specs.Limits.{maxBytes, maxTransfers}
 use Rattle.plan.specs.Sizes.{textBytes}
 use Rattle.reading.specs.Plan.{Plan, readMode, regionsWhere, startAt, taskAt, taskOf, wordsOf, writeMode}
-use Rattle.reading.specs.Reading.{Reading, accepted, readOf, refused}
+use Rattle.reading.specs.Reading.{Reading, accepted, readOf, readWithin, refused}
 use Rattle.reading.specs.Refusals.{Fit, fit, fitFrom, noFit}
 use Rattle.reading.specs.Valid.{valid}
 use Rattle.reading.specs.Written.{Rising, SameButStarts, records, textFrom, textOf}
@@ -79,3 +82,21 @@ pub record TextLaws : Type 0 where
   pub no-trace : (text other : List ℕ) (P Q : Plan) → Says text P → Says other Q → (wordsOf P ≡ wordsOf Q) ↔ SameButStarts P Q
   -- of these texts the written one is the one whose `start` records rise and have no value 0
   pub written : (text : List ℕ) (P : Plan) → Says text P → (text ≡ textOf (wordsOf P)) ↔ Rising 0 (P .starts)
+
+-- the first line gives more than `most` passes
+pub record MorePasses (most : ℕ) (text : List ℕ) : Type 0 where
+  pub line : List ℕ
+  pub others : List (List ℕ)
+  pub passes : ℕ
+  pub ranks : Number
+  pub regions : Number
+  pub lines : split 10 text ≡ line ∷ others
+  pub says : recordOf line ≡ Loop (Value passes) ranks regions
+  pub more : most < passes
+
+-- reading with the limit `most` on passes, at most `maxPasses`, and with `maxPasses`
+pub record TextsKept (most : ℕ) : Type 0 where
+  -- they answer the same, but for a text whose first line has more passes than `most`, and which that refuses
+  pub same : (text : List ℕ) → (readWithin most text ≡ readOf text) ⊎ ((readWithin most text ≡ refused 3 1) × MorePasses most text)
+  -- `most` accepts exactly the texts that `maxPasses` accepts and that have no more passes, to the same words
+  pub accepts : (text w : List ℕ) → (readWithin most text ≡ accepted w) ↔ ((readOf text ≡ accepted w) × (passesOf w ≤ most))

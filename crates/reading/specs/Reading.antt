@@ -92,46 +92,50 @@ abbrev pub lineRefusal : RecordAt → ℕ
 lineRefusal (Line r at) = recordRefusal r
 lineRefusal Unended = 1
 
--- what a record does. Within a line: 1, 2, 4 or 5, 3 from left to right, 10, 6, 9
-abbrev pub step : State → Record → Step
-step first (Loop p q n) =
-    need (lies 0 maxPasses p) 3
+-- what a record does, with the limit `most` on passes. Within a line: 1, 2, 4 or 5, 3 from left to
+-- right, 10, 6, 9
+abbrev pub stepWithin : ℕ → State → Record → Step
+stepWithin most first (Loop p q n) =
+    need (lies 0 most p) 3
     (need (lies 1 maxRanks q) 3
     (need (lies 1 maxRegions n) 3
     (next (closed (withLoop (valueOf p) (valueOf q) (valueOf n))))))
-step first (Record.Start g v) = refuse 2
-step first (Begin q k c) = refuse 2
-step first (Record.Access m g) = refuse 2
-step first End = refuse 2
-step first Unreadable = refuse (recordRefusal Unreadable)
-step (closed P) (Loop p q n) = refuse 2
-step (closed P) (Record.Start g v) =
+stepWithin most first (Record.Start g v) = refuse 2
+stepWithin most first (Begin q k c) = refuse 2
+stepWithin most first (Record.Access m g) = refuse 2
+stepWithin most first End = refuse 2
+stepWithin most first Unreadable = refuse (recordRefusal Unreadable)
+stepWithin most (closed P) (Loop p q n) = refuse 2
+stepWithin most (closed P) (Record.Start g v) =
     need (noTaskYet P) 2
     (need (below (P .regions) g) 3
     (need (isWord v) 3
     (need (not (mem (valueOf g) (started (P .starts)))) 6
     (next (closed (withStart P (valueOf g) (valueOf v)))))))
-step (closed P) (Begin q k c) =
+stepWithin most (closed P) (Begin q k c) =
     need (below (P .ranks) q) 3
     (need (lies 0 maxKernel k) 3
     (need (isWord c) 3
     (need (ltb (length (P .tasks)) maxTasks) 10
     (next (opened P (newTask (valueOf q) (valueOf k) (valueOf c)))))))
-step (closed P) (Record.Access m g) = refuse 5
-step (closed P) End = refuse 5
-step (closed P) Unreadable = refuse (recordRefusal Unreadable)
-step (opened P t) (Loop p q n) = refuse 2
-step (opened P t) (Record.Start g v) = refuse 2
-step (opened P t) (Begin q k c) = refuse 4
-step (opened P t) (Record.Access m g) =
+stepWithin most (closed P) (Record.Access m g) = refuse 5
+stepWithin most (closed P) End = refuse 5
+stepWithin most (closed P) Unreadable = refuse (recordRefusal Unreadable)
+stepWithin most (opened P t) (Loop p q n) = refuse 2
+stepWithin most (opened P t) (Record.Start g v) = refuse 2
+stepWithin most (opened P t) (Begin q k c) = refuse 4
+stepWithin most (opened P t) (Record.Access m g) =
     need (below (P .regions) g) 3
     (need (ltb (length (t .accesses)) maxAccesses) 10
     (need (not (mem (valueOf g) (named (t .accesses)))) 6
     (next (opened P (withAccess t m (valueOf g))))))
-step (opened P t) End =
+stepWithin most (opened P t) End =
     need (suits (t .kernel) (readCount (t .accesses))) 9
     (next (closed (withTask P t)))
-step (opened P t) Unreadable = refuse (recordRefusal Unreadable)
+stepWithin most (opened P t) Unreadable = refuse (recordRefusal Unreadable)
+
+abbrev pub step : State → Record → Step
+step = stepWithin maxPasses
 
 abbrev pub isEmpty : List ℕ → Bool
 isEmpty [] = true
@@ -151,11 +155,17 @@ onStep n k (next s) = k s
 onStep n k (refuse why) = refused why n
 
 -- the lines from line n on: what follows the last line feed is the last of the pieces, and must be empty
+abbrev pub readFromWithin : ℕ → ℕ → State → List (List ℕ) → Reading
+readFromWithin most n s [] = refused (lineRefusal Unended) n
+readFromWithin most n s (l ∷ []) = cond (isEmpty l) (atEnd n s) (refused (lineRefusal Unended) n)
+readFromWithin most n s (l ∷ m ∷ ls) = onStep n (λ s′. readFromWithin most (n + 1) s′ (m ∷ ls)) (stepWithin most s (recordOf l))
+
 abbrev pub readFrom : ℕ → State → List (List ℕ) → Reading
-readFrom n s [] = refused (lineRefusal Unended) n
-readFrom n s (l ∷ []) = cond (isEmpty l) (atEnd n s) (refused (lineRefusal Unended) n)
-readFrom n s (l ∷ m ∷ ls) = onStep n (λ s′. readFrom (n + 1) s′ (m ∷ ls)) (step s (recordOf l))
+readFrom = readFromWithin maxPasses
 
 -- the pieces between the line feeds, the first being line 1
+abbrev pub readWithin : ℕ → List ℕ → Reading
+readWithin most text = cond (ltb maxBytes (length text)) (refused 10 0) (readFromWithin most 1 first (split 10 text))
+
 unfoldable pub readOf : List ℕ → Reading
-readOf text = cond (ltb maxBytes (length text)) (refused 10 0) (readFrom 1 first (split 10 text))
+readOf = readWithin maxPasses

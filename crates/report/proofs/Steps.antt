@@ -152,14 +152,37 @@ module _ (plan counts values : List ℕ) (opens : openOf plan counts values .ref
   abbrev s : Lent
   s = lentBy (openOf plan counts values)
 
-  abbrev l : List Call
-  l = stepsFrom plan mostSteps s
-
   order : (k : List Call) → InAnyOrder (planBody plan) plan s k
   order = open-order plan counts values opens
 
-  pub steps-accepted : accepted plan isStep s l ≡ length l
-  steps-accepted = taken-accepted plan s l (steps-taken plan mostSteps s)
+  over-after : (k : List Call) → Complete (planBody plan) (stateOf (play plan s k .counts) (play plan s k .values)) → Over plan (play plan s k)
+  over-after k = complete-over plan (play plan s k) (open-clear plan counts values opens k)
+
+  -- with a bound that is enough for all steps
+  module _ (bound : ℕ) (enough : totalSteps (planBody plan) ≤ bound) where
+    abbrev k : List Call
+    k = stepsFrom plan bound s
+
+    bound-accepted : accepted plan isStep s k ≡ length k
+    bound-accepted = taken-accepted plan s k (steps-taken plan bound s)
+
+    bound-end : AtEnd (planBody plan) plan s k
+    bound-end = go (order k .leads-on)
+      where
+        none-left : (m : List Call) → accepted plan isStep (play plan s k) m ≡ length m → AtEnd (planBody plan) plan s (k ++ m) →
+            Over plan (play plan s k) ⊎ (length k ≡ bound) → m ≡ []
+        none-left m n e (inl o) = over-none plan (play plan s k) o m n
+        none-left [] n e (inr f) = refl
+        none-left (c ∷ m) n e (inr f) =
+            absurd (omega (arith, n, f, order (k ++ (c ∷ m)) .ends .0 e, accepted-append plan isStep s k (c ∷ m), bound-accepted, enough))
+
+        go : (m : List Call) × (accepted plan isStep (play plan s k) m ≡ length m) × AtEnd (planBody plan) plan s (k ++ m) → AtEnd (planBody plan) plan s k
+        go (m, n, e) =
+            let z : m ≡ [] = none-left m n e (steps-stop plan bound s) in
+            subst (AtEnd (planBody plan) plan s) (ap (λ (x : List Call). k ++ x) z ∙ append-nil k) e
+
+    bound-complete : Complete (planBody plan) (stateOf (play plan s k .counts) (play plan s k .values))
+    bound-complete a h = order k .counted a h .1 ∙ bound-end a h
 
   total-most : totalSteps (planBody plan) ≤ mostSteps
   unfolding totalSteps
@@ -169,34 +192,31 @@ module _ (plan counts values : List ℕ) (opens : openOf plan counts values .ref
       mul-le-mul (formed (take planWords plan) (form-words (take planWords plan) f) .passes-most) (graph-laws .items (take planWords plan) f) in
       omega (arith, p)
 
-  steps-end : AtEnd (planBody plan) plan s l
-  steps-end = go (order l .leads-on)
-    where
-      none-left : (k : List Call) → accepted plan isStep (play plan s l) k ≡ length k → AtEnd (planBody plan) plan s (l ++ k) →
-          Over plan (play plan s l) ⊎ (length l ≡ mostSteps) → k ≡ []
-      none-left k n e (inl o) = over-none plan (play plan s l) o k n
-      none-left [] n e (inr m) = refl
-      none-left (c ∷ k) n e (inr m) =
-          absurd (omega (arith, n, m, order (l ++ (c ∷ k)) .ends .0 e, accepted-append plan isStep s l (c ∷ k), steps-accepted, total-most))
-
-      go : (k : List Call) × (accepted plan isStep (play plan s l) k ≡ length k) × AtEnd (planBody plan) plan s (l ++ k) → AtEnd (planBody plan) plan s l
-      go (k, n, e) =
-          let z : k ≡ [] = none-left k n e (steps-stop plan mostSteps s) in
-          subst (AtEnd (planBody plan) plan s) (ap (λ (x : List Call). l ++ x) z ∙ append-nil l) e
+  abbrev l : List Call
+  l = stepsFrom plan mostSteps s
 
   pub steps-complete : Complete (planBody plan) (stateOf (play plan s l .counts) (play plan s l .values))
-  steps-complete a h = order l .counted a h .1 ∙ steps-end a h
+  steps-complete = bound-complete mostSteps total-most
 
-  pub steps-total : accepted plan isStep s l ≡ totalSteps (planBody plan)
+  -- every other bound that is enough gives the same steps
+  pub steps-same : (bound : ℕ) → totalSteps (planBody plan) ≤ bound → stepsFrom plan bound s ≡ l
+  steps-same bound e =
+      taken-only plan s (stepsFrom plan bound s) l (steps-taken plan bound s) (steps-taken plan mostSteps s)
+      (over-after (stepsFrom plan bound s) (bound-complete bound e)) (over-after l steps-complete)
+
+  steps-accepted : accepted plan isStep s l ≡ length l
+  steps-accepted = bound-accepted mostSteps total-most
+
+  steps-end : AtEnd (planBody plan) plan s l
+  steps-end = bound-end mostSteps total-most
+
+  steps-total : accepted plan isStep s l ≡ totalSteps (planBody plan)
   steps-total = order l .ends .0 steps-end
 
-  pub steps-results : (g : ℕ) → g < planBody plan .regions →
+  steps-results : (g : ℕ) → g < planBody plan .regions →
       let t = play plan s l in
       (resultOf plan (t .counts) (t .values) g .refusal ≡ 0) × (resultOf plan (t .counts) (t .values) g .word ≡ loopFinal (planBody plan) g)
   steps-results g h = let a = order l .accepts-results g h .0 steps-end in (a, order l .final g a)
-
-  over-after : (k : List Call) → Complete (planBody plan) (stateOf (play plan s k .counts) (play plan s k .values)) → Over plan (play plan s k)
-  over-after k = complete-over plan (play plan s k) (open-clear plan counts values opens k)
 
   pub steps-run : Run plan s (play plan s l) (accepted plan isStep s l)
   steps-run =

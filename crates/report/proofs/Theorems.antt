@@ -1,11 +1,12 @@
 -- The laws of the lines.
 use Prim.Native.Nat.{ℕ, _≤_}
-use mathlib.Core.Path.{_≡_, refl, _∙_, ap}
+use mathlib.Core.Path.{_≡_, refl, sym, _∙_, ap, subst}
 use mathlib.Core.Bool.{true}
 use mathlib.Core.List.{List}
 use native.Mathlib.Omega.{arith}
 use lib.ListN.{length, replicate, length-replicate}
-use Rattle.plan.specs.Layout.{planWords}
+use Rattle.body.specs.Items.{totalSteps}
+use Rattle.plan.specs.Layout.{planWords, bodyOf}
 use Rattle.plan.specs.Form.{inForm}
 use Rattle.reading.specs.Reading.{Reading, readOf, accepted as readTo, refused}
 use Rattle.reading.proofs.Theorems.{laws as reading-laws}
@@ -14,7 +15,7 @@ use Rattle.steps.specs.Answers.{openOf}
 use Rattle.steps.proofs.Accepting.{long-slices, open-accepted}
 use Rattle.report.specs.Report.{openState, stepsFrom, mostSteps, readingLines, linesOf, reportBytes}
 use Rattle.report.specs.Laws.{Lined, Laws}
-use Rattle.report.proofs.Steps.{steps-run, steps-calls}
+use Rattle.report.proofs.Steps.{steps-run, steps-calls, steps-same}
 use Rattle.report.proofs.Sizes.{refused-most}
 use Rattle.report.proofs.Room.{whole, edges-all, plan-room}
 
@@ -36,6 +37,9 @@ module _ (w : List ℕ) (size : length w ≡ planWords) (form : inForm w ≡ tru
   lined : Lined w (openState w) (stepsFrom w mostSteps (openState w))
   lined = record { edges = edges-all w size form; run = steps-run w counts values opens; steps = steps-calls w counts values opens }
 
+  same : (bound : ℕ) → totalSteps (bodyOf w) ≤ bound → stepsFrom w bound (openState w) ≡ stepsFrom w mostSteps (openState w)
+  same bound h = steps-same w counts values opens bound (subst (λ (v : List ℕ). totalSteps (bodyOf v) ≤ bound) (sym (whole w size form)) h)
+
 room : (text : List ℕ) → length (linesOf text) ≤ reportBytes
 unfolding linesOf
 room text = go (readOf text) refl
@@ -45,4 +49,9 @@ room text = go (readOf text) refl
     go (refused n line) e = omega (arith, refused-most n line)
 
 pub laws : Laws
-laws = record { accepted = λ text w e. lined w (reading-laws .words text w e .size) (reading-laws .in-form text w e); room = room }
+laws =
+    record {
+      accepted = λ text w e. lined w (reading-laws .words text w e .size) (reading-laws .in-form text w e);
+      any-bound = λ text w bound e. same w (reading-laws .words text w e .size) (reading-laws .in-form text w e) bound;
+      room = room;
+    }

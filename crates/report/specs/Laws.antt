@@ -3,6 +3,7 @@ use Prim.Native.Nat.{ℕ, _≤_}
 use mathlib.Core.Path.{_≡_}
 use mathlib.Core.List.{List}
 use lib.ListN.{length}
+use Rattle.body.specs.Items.{totalSteps}
 use Rattle.edges.specs.Rule.{AllEdges}
 use Rattle.edges.specs.EdgeList.{edgeList}
 use Rattle.plan.specs.Layout.{bodyOf}
@@ -24,5 +25,9 @@ pub record Laws : Type 0 where
       let s = openState w in
       let l = stepsFrom w mostSteps s in
       Lined w s l
+  -- `mostSteps` does not show: every bound that is enough for the plan gives the same steps. So the
+  -- lines of a text that a lower limit on passes accepts are those of before card 5
+  pub any-bound : (text w : List ℕ) (bound : ℕ) → readOf text ≡ readTo w → totalSteps (bodyOf w) ≤ bound →
+      stepsFrom w bound (openState w) ≡ stepsFrom w mostSteps (openState w)
   -- the room is enough for every text
   pub room : (text : List ℕ) → length (linesOf text) ≤ reportBytes

@@ -1,13 +1,13 @@
 -- Chains of edges: how they are made, and that following the chain of an item tests its waits.
 use Prim.Native.Nat.{ℕ, zero, suc, _+_, _-_, _≤_, _<_, min}
-use mathlib.Core.Path.{_≡_, refl, sym, _∙_, ap, ap₂, subst}
+use mathlib.Core.Path.{_≡_, refl, sym, _∙_, ap, subst}
 use mathlib.Core.Bool.{Bool, true, false, cond, not, _||_}
 use mathlib.Core.List.{List}
 use native.Mathlib.Decide.{ℕ-discrete}
 use native.Mathlib.Nat.{min-le-left, min-le-right}
 use native.Mathlib.Numerals.{add-one}
 use native.Mathlib.Omega.{arith}
-use borrow.Author.Tests.{eqb-true, ltb-true, ltb-false, eq-eqb, lt-ltb, not-true, not-false}
+use borrow.Author.Tests.{eqb-true, ltb-true, ltb-false, eq-eqb, lt-ltb, le-ltb}
 use lib.Dec.{eqb, ltb, leb}
 use lib.ListN.{length, getD, set, replicate, length-set, length-replicate, getD-replicate}
 use Rattle.finite.specs.Lists.{tabulate}
@@ -209,19 +209,20 @@ module _ (w edges counts : List ℕ) (m b : ℕ) where
 module _ (w edges counts : List ℕ) (n m b : ℕ) (E : Edges w edges n m) (lb : b < n) where
   -- whether the item has a pass left
   module _ (table : List ℕ) (G : Graph w table n) (pass passes : ℕ) (p : pass ≡ doneBy counts b) (q : passes ≡ passesOf w)
-      (left : Bool) (t : left ≡ ltb pass (passes - codeFewer (getD table b 0))) where
-    left-is : ltb (doneBy counts b) (itemPasses (bodyOf w) b) ≡ left
-    left-is = sym (t ∙ ap₂ ltb p (own-passes w table n G passes q b lb (passes - codeFewer (getD table b 0)) refl))
+      (own : ℕ) (o : own ≡ passes - codeFewer (getD table b 0)) where
+    own-is : own ≡ itemPasses (bodyOf w) b
+    own-is = own-passes w table n G passes q b lb own o
 
-    pub none-left : not left ≡ true → false ≡ isReady (bodyOf w) counts b
+    pub none-left : own ≤ pass → false ≡ isReady (bodyOf w) counts b
     unfolding isReady
-    none-left h = rw (left-is, not-true left h)
+    none-left h = rw (le-ltb (doneBy counts b) (itemPasses (bodyOf w) b) (omega (arith, own-is)))
 
     -- all edges are met
-    pub all-met : not left ≡ false → (next : ℕ) → Tested w edges counts m b next → next ≤ 0 → true ≡ isReady (bodyOf w) counts b
+    pub all-met : pass < own → (next : ℕ) → Tested w edges counts m b next → next ≤ 0 → true ≡ isReady (bodyOf w) counts b
     unfolding isReady waitsTest metTest
     all-met h next T z =
-        sym (and-intro (ltb (doneBy counts b) (itemPasses (bodyOf w) b)) (waitsTest (bodyOf w) (doneBy counts) (doneBy counts b) b) (left-is ∙ not-false left h)
+        sym (and-intro (ltb (doneBy counts b) (itemPasses (bodyOf w) b)) (waitsTest (bodyOf w) (doneBy counts) (doneBy counts b) b)
+        (lt-ltb (doneBy counts b) (itemPasses (bodyOf w) b) (omega (arith, own-is)))
         (all-of (λ c. metTest (bodyOf w) (doneBy counts) (doneBy counts b) c b) (itemCount (bodyOf w)) (λ c k. each c k (edgeTest (bodyOf w) c b) refl)))
       where
         each : (c : ℕ) → c < itemCount (bodyOf w) → (t : Bool) → edgeTest (bodyOf w) c b ≡ t → (not t || meets w edges counts m b c) ≡ true

@@ -19,7 +19,7 @@ use plan::state::Count;
 use plan::state::FIRST_FINISHED;
 use plan::state::MAX_EDGES;
 use plan::state::MAX_ITEMS;
-use plan::state::has_left;
+use plan::state::own_passes;
 use walk::waits::is_met;
 
 // Where edge e of m comes from.
@@ -100,7 +100,7 @@ fn is_ready(
     ensures { λ r. ⌜ r ≡ isReady (bodyOf (now (plan .entry))) (now (counts .entry)) b ⌝ }
 {
     let pass = counts[FIRST_FINISHED + b];
-    if !has_left(pass, passes, table[b]) {
+    if own_passes(passes, table[b]) <= pass {
         return false;
     }
     let mut left = index_16(heads[b]);

@@ -71,9 +71,13 @@ module _ (plan counts values : List ℕ) where
   abbrev pub formedCounts : Bool
   formedCounts = allBelow (itemCount (planBody plan)) (λ a. countOk (itemPasses (planBody plan) a) (stateOf counts values) a)
 
-  -- 11, 12 and 13 of a step or result, whose number lies within its limit or not
+  -- 11, 12 and 13 of a step or result, if the plan's test of form gave `formed`; its number lies
+  -- within its limit or not
+  abbrev pub refusalBy : Bool → Bool → ℕ
+  refusalBy formed within = refusalOf longSlices (formed && formedCounts) within
+
   abbrev pub callRefusal : Bool → ℕ
-  callRefusal within = refusalOf longSlices (formedPlan plan && formedCounts) within
+  callRefusal = refusalBy (formedPlan plan)
 
   -- nothing is changed
   abbrev pub refused : ℕ → Left
@@ -93,8 +97,12 @@ module _ (plan counts values : List ℕ) where
         values = replaced (λ x. isCopy (planBody plan) x || (isSlot (planBody plan) x || isHeld (planBody plan) x)) (initial (planBody plan)) values;
       }
 
+  -- an opening, if the plan's test of form gave `formed`; and by the test. So with each other call
+  abbrev pub openBy : Bool → Left
+  openBy formed = unless (refusalOf longSlices formed true) opened
+
   unfoldable pub openOf : Left
-  openOf = unless (refusalOf longSlices (formedPlan plan) true) opened
+  openOf = openBy (formedPlan plan)
 
   -- item a reads and computes its word, which is answered and held; the start is counted
   abbrev pub wordNow : ℕ → ℕ
@@ -109,8 +117,11 @@ module _ (plan counts values : List ℕ) where
         values = set values (firstHeld + a) (wordNow a);
       }
 
+  abbrev pub startBy : Bool → ℕ → Left
+  startBy formed a = unless (refusalBy formed (isItem plan a)) (unless (startTests (planBody plan) (stateOf counts values) a) (started a))
+
   unfoldable pub startOf : ℕ → Left
-  startOf a = unless (callRefusal (isItem plan a)) (unless (startTests (planBody plan) (stateOf counts values) a) (started a))
+  startOf = startBy (formedPlan plan)
 
   -- the word that item a holds is answered, and goes to the places that a writes; the finish is counted
   abbrev pub finished : ℕ → Left
@@ -122,13 +133,19 @@ module _ (plan counts values : List ℕ) where
         values = replaced (λ x. mem x (system (planBody plan) .writes a)) (λ x. stateOf counts values .held a) values;
       }
 
+  abbrev pub finishBy : Bool → ℕ → Left
+  finishBy formed a = unless (refusalBy formed (isItem plan a)) (unless (finishTests (stateOf counts values) a) (finished a))
+
   unfoldable pub finishOf : ℕ → Left
-  finishOf a = unless (callRefusal (isItem plan a)) (unless (finishTests (stateOf counts values) a) (finished a))
+  finishOf = finishBy (formedPlan plan)
 
   -- region g's result; nothing is changed
   abbrev pub shown : ℕ → Left
   shown g = record { refusal = 0; word = regionResult (planBody plan) (stateOf counts values) g; counts = counts; values = values }
 
+  abbrev pub resultBy : Bool → ℕ → Left
+  resultBy formed g =
+      unless (refusalBy formed (ltb g (planBody plan .regions))) (unless (resultTests (planBody plan) (stateOf counts values)) (shown g))
+
   unfoldable pub resultOf : ℕ → Left
-  resultOf g =
-      unless (callRefusal (ltb g (planBody plan .regions))) (unless (resultTests (planBody plan) (stateOf counts values)) (shown g))
+  resultOf = resultBy (formedPlan plan)

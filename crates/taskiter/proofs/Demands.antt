@@ -36,6 +36,7 @@ use Rattle.taskiter.specs.Demands.{FitTold, TextRead, PlanReady, Steps, 
 use Rattle.taskiter.proofs.AnyOrder.{in-any-order}
 use Rattle.taskiter.proofs.Unread.{unread}
 use Rattle.taskiter.proofs.Means.{mean-words}
+use Rattle.taskiter.proofs.Kept.{kept, counts-fit}
 use Rattle.taskiter.proofs.Readiness.{ready-long, ready-form, ready-clear, counts-ready, form-ready, clear-ready}
 use Rattle.taskiter.proofs.Writing.{text-given}
 use Rattle.taskiter.proofs.Giving.{items-given, edges-given, total-given}
@@ -197,4 +198,4 @@ demand-3 : Demand3
 demand-3 = record { any-order = opened-order; nearest = mean-laws; word-of = call-word; call-of = word-call; in-words = in-words }
 
 pub demands : Demands
-demands = record { demand-1 = demand-1; demand-2 = demand-2; demand-3 = demand-3 }
+demands = record { demand-1 = demand-1; demand-2 = demand-2; demand-3 = demand-3; kept = kept; counts-fit = counts-fit }

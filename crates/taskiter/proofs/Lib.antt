@@ -8,6 +8,7 @@ pub mod Playing
 pub mod Replying
 pub mod Numbering
 pub mod Means
+pub mod Kept
 pub mod Demands
 pub mod Exported
 pub mod Ending

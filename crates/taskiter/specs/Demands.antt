@@ -22,7 +22,7 @@ use Rattle.body.specs.Transfers.{transferCount}
 use Rattle.body.specs.Items.{send, writer, itemRank, itemCount, itemAt, itemPasses, totalSteps}
 use Rattle.body.specs.Places.{slot, copy, system}
 use Rattle.body.specs.Meaning.{LastWriter, Meaning}
-use Rattle.plan.specs.Limits.{maxBytes, maxTransfers, maxWord}
+use Rattle.plan.specs.Limits.{maxBytes, maxPasses, maxTransfers, maxWord}
 use Rattle.plan.specs.Layout.{planWords, tasksOf, kernelOf, readsOf, bodyOf}
 use Rattle.text.specs.Records.{split}
 use Rattle.reading.specs.Plan.{Plan, wordsOf}
@@ -40,6 +40,7 @@ use Rattle.steps.specs.State.{countWords, valueWords, firstFinished, firstHeld,
 use Rattle.steps.specs.Answers.{Left, openOf, startOf, finishOf, resultOf}
 use Rattle.steps.specs.Calls.{Call, start, finish, result, isStart, isFinish, isStep, Lent, lent, lentBy, call, play, replies, accepted}
 use Rattle.taskiter.specs.Given.{FromText, ItemsGiven, EdgesGiven, TotalGiven, TextGiven}
+use Rattle.taskiter.specs.Kept.{Kept, CountsFit}
 use Rattle.taskiter.specs.Played.{callOf, callsOf, ahead, wordOf, numberOf, callNumbers, Played}
 
 -- Demand 1. Every text, every lent buffer and every call gets an answer; a bad text, and no other, gets a refusal number and a line.
@@ -325,3 +326,6 @@ pub record Demands : Type 0 where
   pub demand-1 : Demand1
   pub demand-2 : Demand2
   pub demand-3 : Demand3
+  -- what was read and answered with a lower limit on passes, for loops within it, is so now
+  pub kept : (most : ℕ) → most ≤ maxPasses → Kept most
+  pub counts-fit : CountsFit

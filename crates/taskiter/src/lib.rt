@@ -102,9 +102,9 @@ pub extern "C" fn taskiter_write(plan: &[u64], text: &mut [u8]) -> Number
 // The version of this interface: TASKITER_VERSION of the header.
 #[no_mangle]
 pub extern "C" fn taskiter_version() -> u64
-    ensures { λ r. ⌜ r ≡ 3 ⌝ }
+    ensures { λ r. ⌜ r ≡ 4 ⌝ }
 {
-    3
+    4
 }
 
 // Opens a lent state for a plan; answers the refusal, 0 if there is none.

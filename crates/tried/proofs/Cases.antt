@@ -16,13 +16,13 @@ use Rattle.edges.specs.Tests.{written, writtenBetween as between, crossed, pair
 use Rattle.edges.specs.EdgeList.{edgesFrom, edgeList}
 use Rattle.edges.proofs.AllEdges.{all-edges}
 use Rattle.plan.specs.Layout.{bodyOf}
-use Rattle.plan.specs.Form.{wordsOk}
+use Rattle.plan.specs.Form.{wordsOk, wordsWithin}
 use Rattle.plan.proofs.Facts.{fits}
 use Rattle.tried.specs.Table.{exampleWords, readersWords}
 
 -- A: the plan on two ranks that the paper gives
 two-ranks-ok : wordsOk (exampleWords 2) ≡ true
-unfolding wordsOk allBelow countBelow suits
+unfolding wordsWithin allBelow countBelow suits
 two-ranks-ok = refl
 
 pub two-ranks-list : edgeList (bodyOf (exampleWords 2)) ≡ tenEdges
@@ -35,7 +35,7 @@ two-ranks-edges = subst (AllEdges (bodyOf (exampleWords 2))) two-ranks-list (all
 -- J: two tasks on one rank that only read one region: each has its own edge, and there is none
 -- between them
 two-readers-ok : wordsOk readersWords ≡ true
-unfolding wordsOk allBelow countBelow suits
+unfolding wordsWithin allBelow countBelow suits
 two-readers-ok = refl
 
 two-readers-list : edgeList (bodyOf readersWords) ≡ (0, 0, 1) ∷ (1, 1, 1) ∷ []

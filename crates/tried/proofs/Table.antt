@@ -1,10 +1,10 @@
 -- The table of specs/Table.antt, proved: texts, edges and kernels by computing, calls by the
 -- demands.
-use Prim.Native.Nat.{ℕ, suc, _+_, _*_, _≤_, _<_}
-use mathlib.Core.Path.{_≡_, refl, sym, _∙_, ap, subst}
+use Prim.Native.Nat.{ℕ, suc, _+_, _-_, _*_, _^_, _≤_, _<_}
+use mathlib.Core.Path.{_≡_, refl, sym, _∙_, ap, ap₂, subst}
 use mathlib.Core.Bool.{Bool, cond}
 use mathlib.Core.Logic.{⊎-elim}
-use mathlib.Core.List.{List, [], _∷_}
+use mathlib.Core.List.{List, [], _∷_, _++_}
 use native.Mathlib.Omega.{arith}
 use lib.ListN.{length, getD, set, take}
 use lib.Seq.{take-at, getD-set-same, getD-set-other}
@@ -13,7 +13,7 @@ use Rattle.unroll.specs.Edges.{Edge}
 use Rattle.unroll.specs.Meaning.{StartRule}
 use Rattle.body.specs.Body.{Body}
 use Rattle.body.specs.TwoRanks.{tenEdges}
-use Rattle.body.specs.Items.{Item, task, writer, itemCount, itemAt, itemPasses}
+use Rattle.body.specs.Items.{writer, itemCount, itemAt, itemPasses}
 use Rattle.body.specs.Places.{system}
 use Rattle.body.specs.Loop.{loopWord, loopFinal}
 use Rattle.edges.proofs.Decided.{edge-distance-is}
@@ -26,12 +26,12 @@ use Rattle.tried.proofs.Cases.{two-ranks-edges, two-readers-edges}
 use Rattle.steps.specs.State.{stateOf, firstFinished}
 use Rattle.steps.specs.Answers.{openOf}
 use Rattle.steps.specs.Calls.{Call, start, finish, result, isStep, Lent, lentBy, call, play, accepted}
-use Rattle.taskiter.specs.Demands.{of-start, of-finish, Ready, Opened, OpenMade, Steps, AtEnd, InAnyOrder, Demands}
+use Rattle.taskiter.specs.Demands.{of-start, of-finish, Ready, Opened, OpenMade, Steps, startsOf, AtEnd, InAnyOrder, Demands}
 use Rattle.taskiter.proofs.Demands.{demands}
-use Rattle.tried.specs.Table.{example, exampleWords, noPass, Fresh, Accepts, after, Table}
-use Rattle.tried.proofs.Read.{example-read, no-pass-read, readers-read, unordered-read, ahead-read, example-written, second-begin, named-twice}
+use Rattle.tried.specs.Table.{exampleOf, example, exampleWords, noPass, Fresh, Accepts, after, Table}
+use Rattle.tried.proofs.Read.{example-read, no-pass-read, more-passes-read, more-passes-before, most-passes-read, too-many-passes, readers-read, unordered-read, ahead-read, example-written, second-begin, named-twice}
 use Rattle.tried.proofs.Printed.{printed, ahead-printed}
-use Rattle.tried.proofs.Drawn.{example-items, example-passes, example-total, ahead-passes, final-two, final-none, first-word}
+use Rattle.tried.proofs.Drawn.{example-items, example-passes, example-total, ahead-passes, final-two, final-none, first-writer, final-of, word-of}
 
 module _ (D : Demands) where
   -- what the demands say of a fresh state of the example with p passes
@@ -155,8 +155,7 @@ module _ (D : Demands) where
         no-edge b e = let z : _≡_ {A = ℕ} 0 1 = edge-distance-is (system (planBody plan)) b 0 0 e ∙ ap (λ (t : Bool). cond t 0 1) (le-ltb b 0 (omega arith)) in omega (arith, z)
 
     word-0 : loopWord (bodyOf (exampleWords 2)) 0 (writer (itemAt (bodyOf (exampleWords 2)) 0)) ≡ 6
-    unfolding itemAt
-    word-0 = ap (λ (l : List Item). loopWord (bodyOf (exampleWords 2)) 0 (writer (getD l 0 (task 0)))) (example-items 2) ∙ first-word
+    word-0 = ap (loopWord (bodyOf (exampleWords 2)) 0) (first-writer 2) ∙ word-of 2 0 (omega arith)
 
     one-started : (C : List ℕ) → C ≡ set (s .counts) 0 (suc (getD (s .counts) 0 0)) → getD C 0 0 ≡ suc (getD C firstFinished 0)
     one-started C e =
@@ -175,6 +174,37 @@ module _ (D : Demands) where
           record { refusal = h; word = order 2 example example-read plan s F (start 0 ∷ []) .starts [] [] 0 refl h .2 ∙ word-0 },
           steps 2 example example-read plan s F t .numbers .start-15 0 .1
               (ready 2 example example-read plan s F (start 0 ∷ []), omega (arith, four), one-started (call plan s (start 0) .counts) (m .counted)),
+        )
+
+  -- as many passes as there can be
+  module _ (plan : List ℕ) (s : Lent) (F : Fresh (10 ^ 12) plan s) where
+    abbrev longest : List ℕ
+    longest = exampleOf "1000000000000"
+
+    most-passes-end : (l : List Call) → after plan s l (result 0) .refusal ≡ 0 →
+        (accepted plan isStep s l ≡ 8 * 10 ^ 12) × Accepts (after plan s l (result 0)) (10 ^ 12 + 5)
+    most-passes-end l h = (
+      all-steps (10 ^ 12) longest most-passes-read plan s F l (at-end (10 ^ 12) longest most-passes-read plan s F l h),
+      record { refusal = h; word = order (10 ^ 12) longest most-passes-read plan s F l .final 0 h ∙ final-of (10 ^ 12) (omega arith) },
+    )
+
+    most-passes-reached : (l : List Call) × (after plan s l (result 0) .refusal ≡ 0)
+    most-passes-reached =
+        let k = order (10 ^ 12) longest most-passes-read plan s F [] .leads-on in
+        (k .0, order (10 ^ 12) longest most-passes-read plan s F (k .0) .accepts-results 0 (omega arith) .0 (k .2))
+
+    past-32-bits : (l : List Call) → getD (play plan s l .counts) 0 0 ≡ 2 ^ 32 - 1 → after plan s l (start 0) .refusal ≡ 0 →
+        (after plan s l (start 0) .word ≡ 2 ^ 32 + 5) × (getD (after plan s l (start 0) .counts) 0 0 ≡ 2 ^ 32)
+    past-32-bits l c h =
+        let O = order (10 ^ 12) longest most-passes-read plan s F (l ++ (start 0 ∷ [])) .starts l [] 0 refl h in
+        let n : startsOf (bodyOf (exampleWords (10 ^ 12))) plan s 0 l ≡ 2 ^ 32 - 1 =
+        sym (order (10 ^ 12) longest most-passes-read plan s F l .counted 0 (O .0) .0) ∙ c in
+        let w : writer (itemAt (bodyOf (exampleWords (10 ^ 12))) 0) ≡ 0 = first-writer (10 ^ 12) in
+        let m = steps (10 ^ 12) longest most-passes-read plan s F (play plan s l) .started 0 h in
+        let long : 0 < length (play plan s l .counts) = omega (arith, ready (10 ^ 12) longest most-passes-read plan s F l .plan-ready .long-counts) in (
+          O .2 ∙ (ap₂ (loopWord (bodyOf (exampleWords (10 ^ 12)))) n w ∙ word-of (10 ^ 12) (2 ^ 32 - 1) (omega arith)),
+          ap (λ (k : List ℕ). getD k 0 0) (m .counted)
+              ∙ (getD-set-same (play plan s l .counts) 0 (suc (getD (play plan s l .counts) 0 0)) 0 long ∙ ap suc c),
         )
 
   -- no pass
@@ -210,6 +240,13 @@ module _ (D : Demands) where
         readers-read = readers-read;
         unordered-read = unordered-read;
         written = example-written;
+        more-passes-read = more-passes-read;
+        more-passes-before = more-passes-before;
+        most-passes-read = most-passes-read;
+        too-many-passes = too-many-passes;
+        most-passes-end = most-passes-end;
+        most-passes-reached = most-passes-reached;
+        past-32-bits = past-32-bits;
         ahead-read = ahead-read;
         ahead-passes = ahead-passes;
         ahead-printed = ahead-printed;

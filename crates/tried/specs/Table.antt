@@ -1,6 +1,7 @@
--- The starred cases (paper 01, "Tried by hand"), one field a case, and cases of cards 1 to 3, over
--- the definitions. Proved in proofs/Table.antt.
+-- The starred cases (paper 01, "Tried by hand"), one field a case, and cases of cards 1 to 3
+-- and 5, over the definitions. Proved in proofs/Table.antt.
 use Prim.Native.Nat.{ℕ, _+_, _-_, _*_, _^_, _≤_}
+use Prim.Native.String.{String}
 use mathlib.Core.Path.{_≡_}
 use mathlib.Core.List.{List, [], _∷_, _++_, map}
 use lib.ListN.{length, getD, replicate}
@@ -10,7 +11,7 @@ use Rattle.body.specs.TwoRanks.{tenEdges}
 use Rattle.edges.specs.Rule.{AllEdges}
 use Rattle.plan.specs.Limits.{maxWord}
 use Rattle.plan.specs.Layout.{bodyOf}
-use Rattle.reading.specs.Reading.{readOf, accepted as readTo, refused}
+use Rattle.reading.specs.Reading.{readOf, readWithin, accepted as readTo, refused}
 use Rattle.reading.specs.Written.{textOf}
 use Rattle.steps.specs.State.{countWords, valueWords}
 use Rattle.steps.specs.Answers.{Left, openOf}
@@ -18,14 +19,18 @@ use Rattle.text.specs.Ascii.{ascii}
 use Rattle.report.specs.Report.{linesOf}
 use Rattle.steps.specs.Calls.{Call, start, finish, result, isStep, Lent, lentBy, call, play, accepted}
 
--- the example on two ranks ("The run program") with 2 passes, and with none
+-- the example on two ranks ("The run program") with so many passes, in digits; with 2; with none
+abbrev pub exampleOf : String → List ℕ
+exampleOf passes =
+    ascii "loop\t"
+    ++ (ascii passes
+    ++ ascii "\t2\t2\nstart\t0\t5\nbegin\t0\t1\t1\ninout\t0\nend\nbegin\t1\t1\t0\nin\t0\ninout\t1\nend\n")
+
 abbrev pub example : List ℕ
-example =
-    ascii "loop\t2\t2\t2\nstart\t0\t5\nbegin\t0\t1\t1\ninout\t0\nend\nbegin\t1\t1\t0\nin\t0\ninout\t1\nend\n"
+example = exampleOf "2"
 
 abbrev pub noPass : List ℕ
-noPass =
-    ascii "loop\t0\t2\t2\nstart\t0\t5\nbegin\t0\t1\t1\ninout\t0\nend\nbegin\t1\t1\t0\nin\t0\ninout\t1\nend\n"
+noPass = exampleOf "0"
 
 -- the example with a value of 0 written out and its `start` lines falling
 abbrev pub unordered : List ℕ
@@ -110,6 +115,19 @@ pub record Table : Type 0 where
       ascii "item 0 task 0\nitem 1 task 1\nitem 2 send 1\nitem 3 receive 0\n"
       ++ (ascii "edge 0 0 1\nedge 0 3 0\nedge 1 1 1\nedge 1 2 0\nedge 2 1 1\nedge 2 2 1\nedge 2 3 0\nedge 3 0 1\n"
       ++ ascii "edge 3 2 1\nedge 3 3 1\nsteps 12\nvalue 0 7\nvalue 1 11\n")
+  -- card 5: 1,000,001 passes, which the limit of before refused with 3, and 10^12 are read; one more gives 3
+  pub more-passes-read : readOf (exampleOf "1000001") ≡ readTo (exampleWords 1000001)
+  pub more-passes-before : readWithin 1000000 (exampleOf "1000001") ≡ refused 3 1
+  pub most-passes-read : readOf (exampleOf "1000000000000") ≡ readTo (exampleWords (10 ^ 12))
+  pub too-many-passes : readOf (exampleOf "1000000000001") ≡ refused 3 1
+  -- with 10^12 passes: some list leads to the end, and every such list has 8 × 10^12 accepted steps; region 0 is 10^12 + 5 then
+  pub most-passes-end : (plan : List ℕ) (s : Lent) → Fresh (10 ^ 12) plan s → (l : List Call) → after plan s l (result 0) .refusal ≡ 0 →
+      (accepted plan isStep s l ≡ 8 * 10 ^ 12) × Accepts (after plan s l (result 0)) (10 ^ 12 + 5)
+  pub most-passes-reached : (plan : List ℕ) (s : Lent) → Fresh (10 ^ 12) plan s → (l : List Call) × (after plan s l (result 0) .refusal ≡ 0)
+  -- a start that takes the count of item 0 to 2^32
+  pub past-32-bits : (plan : List ℕ) (s : Lent) → Fresh (10 ^ 12) plan s → (l : List Call) →
+      getD (play plan s l .counts) 0 0 ≡ 2 ^ 32 - 1 → after plan s l (start 0) .refusal ≡ 0 →
+      (after plan s l (start 0) .word ≡ 2 ^ 32 + 5) × (getD (after plan s l (start 0) .counts) 0 0 ≡ 2 ^ 32)
   -- D kernel 3 on four times 2^64 - 1, E on 1, 1, 1, 0, as card 3 has it
   pub case-d : (c : ℕ) → kernelWord 3 c ((2 ^ 64 - 1) ∷ (2 ^ 64 - 1) ∷ (2 ^ 64 - 1) ∷ (2 ^ 64 - 1) ∷ []) ≡ 2 ^ 64 - 1
   pub case-e : (c : ℕ) → kernelWord 3 c (1 ∷ 1 ∷ 1 ∷ 0 ∷ []) ≡ 1

@@ -3,7 +3,7 @@ use native.Mathlib.Omega.{arith}
 use borrow.Author.Needs.{needs}
 use denote.Ref.{now}
 use lib.Seq.{length-take-le}
-use Rattle.calls.proofs.Behind.{passes-most}
+use Rattle.calls.proofs.Behind.{passes-most, codes-few}
 use Rattle.calls.proofs.Entering.{state-refused, lent-plan, lent-counts, lent-graph, state-unformed, state-clear}
 use Rattle.calls.proofs.doors.enter_state.Statement.{statement}
 use Rattle.calls.proofs.doors.enter_state.Tie as tie
@@ -36,7 +36,7 @@ are-formed-requires c κs =
     let k = c .before .before .before .if1 .left in
     let G = lent-graph (now (a .plan)) (now (a .counts)) (now (a .table)) (a .long) _ _ e k in
     let few = G .most in
-    (lent-counts (now (a .plan)) (now (a .counts)) (now (a .table)) (a .long) _ _ e k, search needs, c .before .pass-count .ensures .1, few)
+    (lent-counts (now (a .plan)) (now (a .counts)) (now (a .table)) (a .long) _ _ e k, search needs, c .before .pass-count .ensures .1, few, codes-few _ _ _ G)
 
 returns-2 : tie.Need-returns-2
 returns-2 c =

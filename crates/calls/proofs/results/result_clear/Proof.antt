@@ -1,7 +1,7 @@
 use native.Mathlib.Omega.{arith}
 use borrow.Author.Needs.{needs}
 use denote.Ref.{now}
-use Rattle.calls.proofs.Behind.{told-refused, passes-most, graph-formed, result-beyond, result-early, result-made}
+use Rattle.calls.proofs.Behind.{told-refused, passes-most, codes-few, graph-formed, result-beyond, result-early, result-made}
 use Rattle.calls.proofs.results.result_clear.Statement.{statement}
 use Rattle.calls.proofs.results.result_clear.Tie as tie
 
@@ -14,6 +14,11 @@ returns c =
 
 pass-count-requires : tie.Need-pass-count-requires
 pass-count-requires c κs = let G = c .before .before .before .before .before .before .pre .0 .graph in (omega (arith, G .long), passes-most _ _ _ G)
+
+are-complete-requires : tie.Need-are-complete-requires
+are-complete-requires c κs =
+    let K = c .before .before .before .before .before .before .before .pre .0 in
+    (search needs, search needs, search needs, codes-few _ _ _ (K .graph))
 
 returns-2 : tie.Need-returns-2
 returns-2 c =
@@ -42,5 +47,5 @@ returns-3 c =
 pub result-clear-spec : {M : Type 1} → statement M
 result-clear-spec =
     tie.close
-    (tie.spec (λ c κs. search needs) (λ c κs. search needs) returns pass-count-requires (λ c κs. search needs) (λ c κs. search needs) returns-2
+    (tie.spec (λ c κs. search needs) (λ c κs. search needs) returns pass-count-requires are-complete-requires (λ c κs. search needs) returns-2
     (λ c κs. search needs) result-word-requires returns-3)

@@ -1,7 +1,8 @@
+use Prim.Native.Nat.{_<_}
 use native.Mathlib.Omega.{arith}
 use borrow.Author.Needs.{needs}
 use denote.Ref.{now}
-use Rattle.calls.proofs.Behind.{told-refused, passes-most, start-beyond, start-done, start-running, start-waiting, start-made, start-asks}
+use Rattle.calls.proofs.Behind.{told-refused, passes-most, codes-few, lent-few, start-beyond, start-done, start-running, start-waiting, start-made, start-asks}
 use Rattle.calls.proofs.starts.start_clear.Statement.{statement}
 use Rattle.calls.proofs.starts.start_clear.Tie as tie
 
@@ -14,6 +15,12 @@ returns c =
 
 pass-count-requires : tie.Need-pass-count-requires
 pass-count-requires c κs = let G = c .before .before .before .before .before .before .before .before .pre .0 .graph in (omega (arith, G .long), passes-most _ _ _ G)
+
+own-passes-requires : tie.Need-own-passes-requires
+own-passes-requires c κs =
+    let index = c .before .before .before .before in
+    let s = index .before .before .before .before .before .before in
+    codes-few _ _ _ (s .pre .0 .graph) (index .as-index .result) (omega (arith, index .as-index .ensures, index .before .if1 .left, index .before .before .as-word .ensures))
 
 returns-2 : tie.Need-returns-2
 returns-2 c =
@@ -36,6 +43,16 @@ returns-3 c =
     (start-running _ (now (a .counts)) _ _ (s .pre .0) (now (a .values)) (s .pre .1) _ _ (index .as-index .ensures)
     (omega (arith, index .before .if1 .left, index .before .before .as-word .ensures)) _ _ (own .before .before .pass-count .ensures .0) (own .own-passes .ensures)
     (omega (arith, c .before .before .if2 .left)) (c .before .if3 .taken))
+
+waits-met-requires : tie.Need-waits-met-requires
+waits-met-requires c κs =
+    let else3 = c .before .before in
+    let own = else3 .before .before in
+    let index = own .before .before .before .before .before in
+    let s = index .before .before .before .before .before .before in
+    let below : index .as-index .result < s .args .n = omega (arith, index .as-index .ensures, index .before .if1 .left, index .before .before .as-word .ensures) in
+    let few = lent-few _ (now (s .args .counts)) _ _ (s .pre .0) (now (s .args .values)) (s .pre .1) (index .as-index .result) below (omega (arith, else3 .if3 .left)) in
+    (s .pre .0 .graph, below, search needs, few .0, few .1)
 
 returns-4 : tie.Need-returns-4
 returns-4 c =
@@ -75,6 +92,6 @@ pub start-clear-spec : {M : Type 1} → statement M
 start-clear-spec =
     tie.close
     (tie.spec (λ c κs. search needs) (λ c κs. search needs) returns (λ c κs. search needs) (λ c. search needs) (λ c. search needs) (λ c. search needs)
-    (λ c. search needs) (λ c. search needs) pass-count-requires (λ c. search needs) (λ c. search needs) (λ c κs. search needs) (λ c κs. search needs) returns-2 (λ c κs. search needs) returns-3 (λ c. search needs)
-    (λ c. search needs) (λ c. search needs) (λ c κs. search needs) (λ c κs. search needs) (λ c. search needs) returns-4 (λ c. search needs)
+    (λ c. search needs) (λ c. search needs) pass-count-requires (λ c. search needs) (λ c. search needs) own-passes-requires (λ c κs. search needs) returns-2 (λ c κs. search needs) returns-3 (λ c. search needs)
+    (λ c. search needs) (λ c. search needs) waits-met-requires (λ c κs. search needs) (λ c. search needs) returns-4 (λ c. search needs)
     (λ c. search needs) (λ c κs. search needs) start-item-requires (λ c. search needs) (λ c. search needs) returns-5)

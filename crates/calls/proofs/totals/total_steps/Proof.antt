@@ -7,7 +7,7 @@ use Rattle.finite.specs.Below.{sumBelow}
 use Rattle.finite.proofs.Below.{sum-none, sum-more, sum-done}
 use Rattle.plan.specs.Limits.{maxPasses}
 use Rattle.plan.specs.Code.{codeFewer}
-use Rattle.calls.proofs.Behind.{passes-most, total-is}
+use Rattle.calls.proofs.Behind.{passes-most, codes-few, total-is}
 use Rattle.calls.proofs.totals.total_steps.Statement.{statement}
 use Rattle.calls.proofs.totals.total_steps.Tie as tie
 
@@ -23,6 +23,11 @@ pass-count-requires c κs = let G = c .before .pre in (omega (arith, G .long), p
 
 loop-holds : tie.Need-loop-holds Inv-loop μ-loop
 loop-holds c = search (needs, sum-none)
+
+own-passes-requires : tie.Need-own-passes-requires Inv-loop μ-loop
+own-passes-requires c κs =
+    let turn = c .before .before in
+    codes-few _ _ _ (turn .before .before .before .pre) (turn .loop .a) (c .before .loop-test .taken)
 
 loop-again : tie.Need-loop-again Inv-loop μ-loop
 loop-again c =
@@ -41,5 +46,5 @@ returns c =
 pub total-steps-spec : {M : Type 1} → statement M
 total-steps-spec =
     tie.close
-    (tie.spec Inv-loop μ-loop pass-count-requires loop-holds (λ c. search needs) (λ c. search needs) (λ c κs. search needs) (λ c. search needs)
-    (λ c. search needs) (λ c. search needs) (λ c. search needs) (λ c. search needs) loop-again returns)
+    (tie.spec Inv-loop μ-loop pass-count-requires loop-holds (λ c. search needs) (λ c. search needs) own-passes-requires (λ c. search needs)
+    (λ c. search needs) (λ c. search needs) (λ c. search needs) loop-again returns)

@@ -1,6 +1,7 @@
 use mathlib.Core.Path.{refl}
 use borrow.Author.Needs.{needs}
 use borrow.Author.Tests.{not-true, not-false}
+use Rattle.calls.proofs.Behind.{codes-few}
 use Rattle.runs.proofs.Chaining.{Tested, none-left, tested-first, left-below, tested-less, not-met, tested-more, all-met}
 use Rattle.runs.proofs.chains.is_ready.Statement.{statement}
 use Rattle.runs.proofs.chains.is_ready.Tie as tie
@@ -10,6 +11,9 @@ Inv-loop plan table edges n m heads nexts counts passes b pass left₀ left = Te
 
 abbrev μ-loop : tie.MeasureT-loop
 μ-loop plan table edges n m heads nexts counts passes b pass left₀ left = left
+
+own-passes-requires : tie.Need-own-passes-requires Inv-loop μ-loop
+own-passes-requires c κs = search (needs, codes-few)
 
 returns : tie.Need-returns Inv-loop μ-loop
 returns c = search (needs, none-left)
@@ -54,6 +58,6 @@ returns-3 c = search (needs, all-met)
 pub is-ready-spec : {M : Type 1} → statement M
 is-ready-spec =
     tie.close
-    (tie.spec Inv-loop μ-loop (λ c. search needs) (λ c. search needs) (λ c. search needs) (λ c. search needs) (λ c. search needs) (λ c κs. search needs) returns (λ c. search needs) (λ c. search needs)
+    (tie.spec Inv-loop μ-loop (λ c. search needs) (λ c. search needs) (λ c. search needs) (λ c. search needs) (λ c. search needs) own-passes-requires returns (λ c. search needs) (λ c. search needs)
     (λ c κs. search needs) loop-holds (λ c. search needs) source-requires (λ c. search needs) (λ c. search needs) (λ c. search needs)
     (λ c κs. search needs) returns-2 (λ c. search needs) (λ c. search needs) (λ c κs. search needs) loop-less loop-again returns-3)
