@@ -38,7 +38,7 @@ static void take_task(const struct task *from, struct body_task *to) {
 }
 
 /* Takes the body from the plan's text, so that it is the one that the runtime reads. */
-static bool take_body(int passes) {
+static bool take_body(uint64_t passes) {
     static char text[TEXT_ROOM];
     int length = with_passes(text, named_plan(text, "blocks"), passes);
     if (read_text((const uint8_t *)text, (size_t)length, &plan).refusal != 0)
@@ -78,7 +78,7 @@ static inline void run_task(const struct body_task *task, uint64_t *cells) {
 
 static void run_plain(uint64_t *cells, int at_once) {
     (void)at_once;
-    for (int p = 0; p < plan.passes; p++)
+    for (uint64_t p = 0; p < plan.passes; p++)
         for (int i = 0; i < plan.tasks; i++)
             run_task(&body[i], cells);
 }
@@ -96,9 +96,9 @@ static void make_tasks(uint64_t *cells) {
 static void run_openmp(uint64_t *cells, int at_once) {
 #pragma omp parallel
 #pragma omp single
-    for (int p = 1; p <= plan.passes; p++) {
+    for (uint64_t p = 1; p <= plan.passes; p++) {
         make_tasks(cells);
-        if (p % at_once == 0) {
+        if (p % (uint64_t)at_once == 0) {
 #pragma omp taskwait
         }
     }
@@ -136,14 +136,14 @@ static int print_values(const uint64_t *cells) {
 int main(int argc, char **argv) {
     static uint64_t plain_cells[MAX_REGIONS], each_cells[MAX_REGIONS], overlap_cells[MAX_REGIONS];
     static struct wants wants;
-    if (!take_body(argc > 1 ? atoi(argv[argc - 1]) : DEFAULT_PASSES) || plan.passes == 0)
+    if (!take_body(argc > 1 ? strtoull(argv[argc - 1], NULL, 10) : DEFAULT_PASSES) || plan.passes == 0)
         return 2;
     double plain = measure(run_plain, 1, plain_cells);
     if (argc > 2 && strcmp(argv[1], "values") == 0)
         return print_values(plain_cells);
     double each = measure(run_openmp, 1, each_cells);
     double overlap = measure(run_openmp, PASSES_AT_ONCE, overlap_cells);
-    printf("tasks %d\nitems %d\npasses %d\nthreads %d\n", plan.tasks, plan.tasks + 2 * find_wants(&plan, &wants), plan.passes, omp_get_max_threads());
+    printf("tasks %d\nitems %d\npasses %" PRIu64 "\nthreads %d\n", plan.tasks, plan.tasks + 2 * find_wants(&plan, &wants), plan.passes, omp_get_max_threads());
     printf("plain %.1f\nopenmp %.1f\noverlap %.1f\n", plain, each, overlap);
     return same(plain_cells, each_cells) && same(plain_cells, overlap_cells) ? 0 : 1;
 }

@@ -12,6 +12,6 @@ int main(int argc, char **argv) {
         return 2;
     }
     if (argc > 2)
-        length = with_passes(text, length, atoi(argv[2]));
+        length = with_passes(text, length, strtoull(argv[2], NULL, 10));
     return fwrite(text, 1, (size_t)length, stdout) == (size_t)length ? 0 : 1;
 }

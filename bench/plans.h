@@ -123,12 +123,12 @@ static int blocks_plan(char *text) {
 }
 
 /* Gives a plan's text another number of passes, in its first line, and answers its length. */
-static inline int with_passes(char *text, int length, int passes) {
+static inline int with_passes(char *text, int length, uint64_t passes) {
     char line[64];
     int from = (int)strlen("loop\t"), to = from;
     while (text[to] != '\t')
         to++;
-    int size = snprintf(line, sizeof line, "%d", passes);
+    int size = snprintf(line, sizeof line, "%" PRIu64, passes);
     memmove(text + from + size, text + to, (size_t)(length - to));
     memcpy(text + from, line, (size_t)size);
     return length - (to - from) + size;
@@ -141,7 +141,7 @@ static int named_plan(char *text, const char *name) {
     if (strcmp(name, "largest") == 0)
         return largest_plan(text);
     if (strcmp(name, "shorter") == 0) /* by one byte than the largest */
-        return with_passes(text, largest_plan(text), 999999);
+        return with_passes(text, largest_plan(text), MOST_PASSES - 1);
     if (strcmp(name, "items") == 0)
         return most_items_plan(text, 16);
     if (strcmp(name, "items2") == 0)

@@ -28,7 +28,7 @@ module _ (w : List ℕ) where
   abbrev pub formedPlan : Bool
   formedPlan = inForm (take planWords w)
 
-  -- the same where a plan may have at most so many passes
+  -- the same with the limit `most` on passes
   abbrev pub formedWithin : ℕ → Bool
   formedWithin most = formWithin (take planWords w) most
 

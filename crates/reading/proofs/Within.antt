@@ -5,7 +5,7 @@ use Rattle.text.specs.declared.Number.the-variants.{Value, TooLarge, Malformed}
 use Rattle.text.specs.declared.Record.{Record}
 use Rattle.text.specs.declared.Record.the-variants.{Loop, Begin, End, Unreadable}
 use mathlib.Core.Path.{_≡_, refl, sym, _∙_, ap, subst}
-use mathlib.Core.Bool.{Bool, true, false, cond, not, _&&_}
+use mathlib.Core.Bool.{Bool, true, false, cond, not}
 use mathlib.Core.Logic.{_⊎_, inl, inr, ⊎-elim}
 use mathlib.Core.List.{List, [], _∷_}
 use native.Mathlib.Omega.{arith}
@@ -20,7 +20,7 @@ use Rattle.body.specs.Transfers.{transferCount}
 use Rattle.plan.specs.Layout.{bodyOf, passesOf}
 use Rattle.plan.specs.Limits.{maxAccesses, maxBytes, maxKernel, maxPasses, maxRanks, maxRegions, maxTasks, maxTransfers}
 use Rattle.reading.specs.Laws.{TextsKept}
-use Rattle.reading.specs.Plan.{Plan, Task, named, readCount, started, wordsOf}
+use Rattle.reading.specs.Plan.{named, readCount, started, wordsOf}
 use Rattle.reading.specs.Reading.{Reading, State, Step, accepted, atEnd, below, closed, first, isEmpty, isWord, lies}
 use Rattle.reading.specs.Reading.{need, next, noTaskYet, onStep, opened, readOf, refuse, refused, valueOf, stepWithin, readFromWithin, readWithin}
 use Rattle.reading.proofs.Back.{word-at}
@@ -51,53 +51,52 @@ module _ (Q : ℕ → Type 0) where
   goes-need true n x h = h
   goes-need false n x h = tt
 
-  module _ (most : ℕ) where
-    -- no record changes the passes
-    goes-step : (s : State) (r : Record) → Later s → Q (passesRead s) → Goes (stepWithin most s r)
-    goes-step first r l h = absurd l
-    goes-step (closed P) (Loop p q n) l h = tt
-    goes-step (closed P) (Record.Start g v) l h =
-        goes-need (noTaskYet P) 2 _
-        (goes-need (below (P .regions) g) 3 _
-        (goes-need (isWord v) 3 _
-        (goes-need (not (mem (valueOf g) (started (P .starts)))) 6 _ (tt, h))))
-    goes-step (closed P) (Begin q k c) l h =
-        goes-need (below (P .ranks) q) 3 _
-        (goes-need (lies 0 maxKernel k) 3 _
-        (goes-need (isWord c) 3 _
-        (goes-need (ltb (length (P .tasks)) maxTasks) 10 _ (tt, h))))
-    goes-step (closed P) (Record.Access m g) l h = tt
-    goes-step (closed P) End l h = tt
-    goes-step (closed P) Unreadable l h = tt
-    goes-step (opened P t) (Loop p q n) l h = tt
-    goes-step (opened P t) (Record.Start g v) l h = tt
-    goes-step (opened P t) (Begin q k c) l h = tt
-    goes-step (opened P t) (Record.Access m g) l h =
-        goes-need (below (P .regions) g) 3 _
-        (goes-need (ltb (length (t .accesses)) maxAccesses) 10 _
-        (goes-need (not (mem (valueOf g) (named (t .accesses)))) 6 _ (tt, h)))
-    goes-step (opened P t) End l h = goes-need (suits (t .kernel) (readCount (t .accesses))) 9 _ (tt, h)
-    goes-step (opened P t) Unreadable l h = tt
+  -- no record changes the passes
+  goes-step : (most : ℕ) (s : State) (r : Record) → Later s → Q (passesRead s) → Goes (stepWithin most s r)
+  goes-step most first r l h = absurd l
+  goes-step most (closed P) (Loop p q n) l h = tt
+  goes-step most (closed P) (Record.Start g v) l h =
+      goes-need (noTaskYet P) 2 _
+      (goes-need (below (P .regions) g) 3 _
+      (goes-need (isWord v) 3 _
+      (goes-need (not (mem (valueOf g) (started (P .starts)))) 6 _ (tt, h))))
+  goes-step most (closed P) (Begin q k c) l h =
+      goes-need (below (P .ranks) q) 3 _
+      (goes-need (lies 0 maxKernel k) 3 _
+      (goes-need (isWord c) 3 _
+      (goes-need (ltb (length (P .tasks)) maxTasks) 10 _ (tt, h))))
+  goes-step most (closed P) (Record.Access m g) l h = tt
+  goes-step most (closed P) End l h = tt
+  goes-step most (closed P) Unreadable l h = tt
+  goes-step most (opened P t) (Loop p q n) l h = tt
+  goes-step most (opened P t) (Record.Start g v) l h = tt
+  goes-step most (opened P t) (Begin q k c) l h = tt
+  goes-step most (opened P t) (Record.Access m g) l h =
+      goes-need (below (P .regions) g) 3 _
+      (goes-need (ltb (length (t .accesses)) maxAccesses) 10 _
+      (goes-need (not (mem (valueOf g) (named (t .accesses)))) 6 _ (tt, h)))
+  goes-step most (opened P t) End l h = goes-need (suits (t .kernel) (readCount (t .accesses))) 9 _ (tt, h)
+  goes-step most (opened P t) Unreadable l h = tt
 
-    ends-cond : (b : Bool) (x y : Reading) → Ends x → Ends y → Ends (cond b x y)
-    ends-cond true x y h k = h
-    ends-cond false x y h k = k
+  ends-cond : (b : Bool) (x y : Reading) → Ends x → Ends y → Ends (cond b x y)
+  ends-cond true x y h k = h
+  ends-cond false x y h k = k
 
-    ends-at : (n : ℕ) (s : State) → Q (passesRead s) → Ends (atEnd n s)
-    ends-at n first h = tt
-    ends-at n (opened P t) h = tt
-    ends-at n (closed P) h =
-        ends-cond (noTaskYet P) _ _ tt
-        (ends-cond (leb (transferCount (bodyOf (wordsOf P))) maxTransfers) _ _ (subst Q (sym (word-at P 0 (omega arith))) h) tt)
+  ends-at : (n : ℕ) (s : State) → Q (passesRead s) → Ends (atEnd n s)
+  ends-at n first h = tt
+  ends-at n (opened P t) h = tt
+  ends-at n (closed P) h =
+      ends-cond (noTaskYet P) _ _ tt
+      (ends-cond (leb (transferCount (bodyOf (wordsOf P))) maxTransfers) _ _ (subst Q (sym (word-at P 0 (omega arith))) h) tt)
 
-    ends-step : (n : ℕ) (k : State → Reading) → ((s : State) → Later s → Q (passesRead s) → Ends (k s)) → (x : Step) → Goes x → Ends (onStep n k x)
-    ends-step n k on (next s) (l, h) = on s l h
-    ends-step n k on (refuse m) h = tt
+  ends-step : (n : ℕ) (k : State → Reading) → ((s : State) → Later s → Q (passesRead s) → Ends (k s)) → (x : Step) → Goes x → Ends (onStep n k x)
+  ends-step n k on (next s) (l, h) = on s l h
+  ends-step n k on (refuse m) h = tt
 
-    ends-lines : (n : ℕ) (s : State) (ls : List (List ℕ)) → Later s → Q (passesRead s) → Ends (readFromWithin most n s ls)
-    ends-lines n s [] l h = tt
-    ends-lines n s (c ∷ []) l h = ends-cond (isEmpty c) _ _ (ends-at n s h) tt
-    ends-lines n s (c ∷ d ∷ ls) l h = ends-step n _ (λ t. ends-lines (n + 1) t (d ∷ ls)) (stepWithin most s (recordOf c)) (goes-step s (recordOf c) l h)
+  ends-lines : (most n : ℕ) (s : State) (ls : List (List ℕ)) → Later s → Q (passesRead s) → Ends (readFromWithin most n s ls)
+  ends-lines most n s [] l h = tt
+  ends-lines most n s (c ∷ []) l h = ends-cond (isEmpty c) _ _ (ends-at n s h) tt
+  ends-lines most n s (c ∷ d ∷ ls) l h = ends-step n _ (λ t. ends-lines most (n + 1) t (d ∷ ls)) (stepWithin most s (recordOf c)) (goes-step most s (recordOf c) l h)
 
 -- the limits lo and hi
 module _ (lo hi : ℕ) (h : lo ≤ hi) where
@@ -191,7 +190,7 @@ module _ (lo hi : ℕ) (h : lo ≤ hi) where
 
   first-lines : (ls : List (List ℕ)) → Both ls (readFromWithin lo 1 first ls) (readFromWithin hi 1 first ls)
   first-lines [] = inl (record { same = refl; few = tt })
-  first-lines (c ∷ []) = inl (record { same = refl; few = ends-cond (λ p. p ≤ lo) lo (isEmpty c) _ _ tt tt })
+  first-lines (c ∷ []) = inl (record { same = refl; few = ends-cond (λ p. p ≤ lo) (isEmpty c) _ _ tt tt })
   first-lines (c ∷ d ∷ ls) = ⊎-elim (λ a. inl (on a)) (λ a. inr (out a)) (first-step (recordOf c))
     where
       on : Alike (stepWithin lo first (recordOf c)) (stepWithin hi first (recordOf c)) → AlikeRead (readFromWithin lo 1 first (c ∷ d ∷ ls)) (readFromWithin hi 1 first (c ∷ d ∷ ls))
@@ -200,7 +199,7 @@ module _ (lo hi : ℕ) (h : lo ≤ hi) where
             same =
                 on-same (λ p. p ≤ lo) 1 _ _ (λ t. lines-same 2 t (d ∷ ls)) (stepWithin lo first (recordOf c)) (a .few)
                 ∙ ap (onStep 1 (λ t. readFromWithin hi 2 t (d ∷ ls))) (a .same);
-            few = ends-step (λ p. p ≤ lo) lo 1 _ (λ t. ends-lines (λ p. p ≤ lo) lo 2 t (d ∷ ls)) (stepWithin lo first (recordOf c)) (a .few);
+            few = ends-step (λ p. p ≤ lo) 1 _ (λ t. ends-lines (λ p. p ≤ lo) lo 2 t (d ∷ ls)) (stepWithin lo first (recordOf c)) (a .few);
           }
 
       out : Parted (recordOf c) (stepWithin lo first (recordOf c)) (stepWithin hi first (recordOf c)) →
@@ -212,7 +211,7 @@ module _ (lo hi : ℕ) (h : lo ≤ hi) where
             lines = refl;
             parts = a;
             out = ap (onStep 1 (λ t. readFromWithin lo 2 t (d ∷ ls))) (a .out);
-            more = ends-step (λ p. lo < p) hi 1 _ (λ t. ends-lines (λ p. lo < p) hi 2 t (d ∷ ls)) (stepWithin hi first (recordOf c)) (a .more);
+            more = ends-step (λ p. lo < p) 1 _ (λ t. ends-lines (λ p. lo < p) hi 2 t (d ∷ ls)) (stepWithin hi first (recordOf c)) (a .more);
           }
 
   read-both : (text : List ℕ) → Both (split 10 text) (readWithin lo text) (readWithin hi text)

@@ -1,12 +1,10 @@
 -- What a lower limit on passes gave is given by a higher one, and counts stay within the passes.
-use Prim.Native.Nat.{ℕ, suc, _+_, _≤_, _<_}
+use Prim.Native.Nat.{ℕ, suc, _+_, _≤_}
 use mathlib.Core.Path.{_≡_, refl, sym, _∙_, ap, subst}
 use mathlib.Core.Bool.{Bool, true, false, cond}
 use mathlib.Core.List.{List, [], _∷_}
 use native.Mathlib.Decide.{decLt, ℕ-discrete}
 use native.Mathlib.Omega.{arith}
-use borrow.Author.Tests.{eqb-true}
-use lib.Dec.{eqb}
 use lib.ListN.{length, getD, set, take, length-set, List·getD-eq-default}
 use lib.Seq.{getD-set-same, getD-set-other}
 use Rattle.finite.specs.Update.{replaced}
@@ -21,7 +19,7 @@ use Rattle.reading.proofs.Within.{texts-kept}
 use Rattle.graph.specs.Answers.{formedPlan, formedWithin, planBody}
 use Rattle.steps.specs.Answers.{Left, isCount, openBy, openOf, startBy, startOf, finishBy, finishOf, resultBy, resultOf}
 use Rattle.steps.specs.Calls.{Call, start, finish, result, Lent, lentBy, call, play, replies}
-use Rattle.steps.proofs.Accepting.{open-accepted, open-opened, open-unchanged, start-clear, start-rule, finish-clear, finish-can, formed-counts, every-unchanged}
+use Rattle.steps.proofs.Accepting.{open-accepted, open-opened, open-unchanged, start-clear, start-rule, finish-clear, finish-can, every-unchanged}
 use Rattle.steps.proofs.Made.{start-counts, finish-counts, result-counts}
 use Rattle.taskiter.specs.Kept.{Kept, CountsFit, callBy, playBy, repliesBy}
 

@@ -27,7 +27,7 @@ module _ (plan : List ℕ) (formed : Bool) where
   repliesBy s [] = []
   repliesBy s (c ∷ l) = callBy s c ∷ repliesBy (lentBy (callBy s c)) l
 
--- with the limit `most` on passes, at most `maxPasses`
+-- what the limit `most` on passes, where that is at most `maxPasses`, and `maxPasses` give alike
 pub record Kept (most : ℕ) : Type 0 where
   pub texts : TextsKept most
   -- in form are exactly the plans that are so with `maxPasses` and have no more passes than `most`
