@@ -96,7 +96,7 @@ pub record MorePasses (most : ℕ) (text : List ℕ) : Type 0 where
 
 -- reading with the limit `most` on passes, where that is at most `maxPasses`, and with `maxPasses`
 pub record TextsKept (most : ℕ) : Type 0 where
-  -- both answer the same; or the first line has more passes than `most`, and `most` refuses the text there
+  -- both answer the same; or the first line has more passes than `most`, which refuses it with 3 at line 1
   pub same : (text : List ℕ) → (readWithin most text ≡ readOf text) ⊎ ((readWithin most text ≡ refused 3 1) × MorePasses most text)
   -- `most` accepts exactly the texts that `maxPasses` accepts and that have no more passes than `most`, to the same words
   pub accepts : (text w : List ℕ) → (readWithin most text ≡ accepted w) ↔ ((readOf text ≡ accepted w) × (passesOf w ≤ most))

@@ -163,7 +163,7 @@ readFromWithin most n s (l ∷ m ∷ ls) = onStep n (λ s′. readFromWithin mos
 abbrev pub readFrom : ℕ → State → List (List ℕ) → Reading
 readFrom = readFromWithin maxPasses
 
--- the pieces between the line feeds, the first being line 1
+-- the pieces between the line feeds, the first being line 1, with the limit `most` on passes
 abbrev pub readWithin : ℕ → List ℕ → Reading
 readWithin most text = cond (ltb maxBytes (length text)) (refused 10 0) (readFromWithin most 1 first (split 10 text))
 

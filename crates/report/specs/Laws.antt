@@ -25,8 +25,8 @@ pub record Laws : Type 0 where
       let s = openState w in
       let l = stepsFrom w mostSteps s in
       Lined w s l
-  -- `mostSteps` does not show: every bound that is enough for the plan gives the same steps. So the
-  -- lines of a text that a lower limit on passes accepts are those of before card 5
+  -- `mostSteps` does not show: every bound that is enough for the plan gives the same steps. Else the
+  -- lines name the limit on passes through reading and the form of a plan alone, of which `Kept` speaks
   pub any-bound : (text w : List ℕ) (bound : ℕ) → readOf text ≡ readTo w → totalSteps (bodyOf w) ≤ bound →
       stepsFrom w bound (openState w) ≡ stepsFrom w mostSteps (openState w)
   -- the room is enough for every text

@@ -71,8 +71,8 @@ module _ (plan counts values : List ℕ) where
   abbrev pub formedCounts : Bool
   formedCounts = allBelow (itemCount (planBody plan)) (λ a. countOk (itemPasses (planBody plan) a) (stateOf counts values) a)
 
-  -- 11, 12 and 13 of a step or result, if the plan's test of form gave `formed`; its number lies
-  -- within its limit or not
+  -- 11, 12 and 13 of a step or result, where the plan's test of form gave `formed`; `within`: its
+  -- number lies within its limit
   abbrev pub refusalBy : Bool → Bool → ℕ
   refusalBy formed within = refusalOf longSlices (formed && formedCounts) within
 
@@ -97,7 +97,8 @@ module _ (plan counts values : List ℕ) where
         values = replaced (λ x. isCopy (planBody plan) x || (isSlot (planBody plan) x || isHeld (planBody plan) x)) (initial (planBody plan)) values;
       }
 
-  -- an opening, if the plan's test of form gave `formed`; and by the test. So with each other call
+  -- an opening, where the plan's test of form gave `formed`; `openOf` takes what the test gives. So
+  -- with each other call
   abbrev pub openBy : Bool → Left
   openBy formed = unless (refusalOf longSlices formed true) opened
 

@@ -12,7 +12,7 @@ use Rattle.graph.specs.Answers.{formedPlan, formedWithin, planBody}
 use Rattle.steps.specs.Answers.{Left, openBy, openOf, startBy, finishBy, resultBy}
 use Rattle.steps.specs.Calls.{Call, start, finish, result, Lent, lentBy, call, play, replies}
 
--- `call`, `play` and `replies`, if the plan's test of form gave `formed`
+-- `call`, `play` and `replies`, where the plan's test of form gave `formed`
 module _ (plan : List ℕ) (formed : Bool) where
   abbrev pub callBy : Lent → Call → Left
   callBy s (start a) = startBy plan (s .counts) (s .values) formed a
@@ -30,9 +30,9 @@ module _ (plan : List ℕ) (formed : Bool) where
 -- what the limit `most` on passes, where that is at most `maxPasses`, and `maxPasses` give alike
 pub record Kept (most : ℕ) : Type 0 where
   pub texts : TextsKept most
-  -- in form are exactly the plans that are so with `maxPasses` and have no more passes than `most`
+  -- with `most` exactly those plans are in form that are so with `maxPasses` and have at most `most` passes
   pub form : (plan : List ℕ) → formedWithin plan most ≡ (leb (planBody plan .passes) most && formedPlan plan)
-  -- so of a plan with no more passes the test gives the same; items, edges, total and writing go by the limit through it alone
+  -- so the test gives the same for a plan within `most`; items, edges, total and writing go by the limit through it alone
   pub same-form : (plan : List ℕ) → planBody plan .passes ≤ most → formedWithin plan most ≡ formedPlan plan
   -- an opening and each list of calls, on every state, answer and leave the same
   pub opens : (plan counts values : List ℕ) → planBody plan .passes ≤ most → openBy plan counts values (formedWithin plan most) ≡ openOf plan counts values
@@ -40,8 +40,8 @@ pub record Kept (most : ℕ) : Type 0 where
   pub plays : (plan : List ℕ) (s : Lent) (l : List Call) → planBody plan .passes ≤ most → playBy plan (formedWithin plan most) s l ≡ play plan s l
   pub answers : (plan : List ℕ) (s : Lent) (l : List Call) → planBody plan .passes ≤ most → repliesBy plan (formedWithin plan most) s l ≡ replies plan s l
 
--- where the plan has at most `top` passes and no count is above `top`, none is after an opening and
--- none after a list of calls: 32 bits are enough for the counts of every plan with less than 2^32
+-- where the plan has at most `top` passes and no count is above `top`, the unused ones too, none is
+-- after an opening and none after a list of calls: with `top` = 2^32 - 1, counts of 32 bits stay so
 abbrev pub CountsFit : Type 0
 CountsFit = (plan : List ℕ) (top : ℕ) → planBody plan .passes ≤ top → (s : Lent) → ((i : ℕ) → getD (s .counts) i 0 ≤ top) →
     ((i : ℕ) → getD (openOf plan (s .counts) (s .values) .counts) i 0 ≤ top) × ((l : List Call) (i : ℕ) → getD (play plan s l .counts) i 0 ≤ top)

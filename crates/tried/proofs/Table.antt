@@ -30,6 +30,7 @@ use Rattle.taskiter.specs.Demands.{of-start, of-finish, Ready, Opened, OpenMade
 use Rattle.taskiter.proofs.Demands.{demands}
 use Rattle.tried.specs.Table.{exampleOf, example, exampleWords, noPass, Fresh, Accepts, after, Table}
 use Rattle.tried.proofs.Read.{example-read, no-pass-read, more-passes-read, more-passes-before, most-passes-read, too-many-passes, readers-read, unordered-read, ahead-read, example-written, second-begin, named-twice}
+use Rattle.tried.proofs.Starts.{nth-start}
 use Rattle.tried.proofs.Printed.{printed, ahead-printed}
 use Rattle.tried.proofs.Drawn.{example-items, example-passes, example-total, ahead-passes, final-two, final-none, first-writer, final-of, word-of}
 
@@ -207,6 +208,20 @@ module _ (D : Demands) where
               ∙ (getD-set-same (play plan s l .counts) 0 (suc (getD (play plan s l .counts) 0 0)) 0 long ∙ ap suc c),
         )
 
+    past-32-reached : (l : List Call) × (getD (play plan s l .counts) 0 0 ≡ 2 ^ 32 - 1) × (after plan s l (start 0) .refusal ≡ 0)
+    past-32-reached =
+        let k = order (10 ^ 12) longest most-passes-read plan s F [] .leads-on in
+        let O = order (10 ^ 12) longest most-passes-read plan s F (k .0) in
+        let n : 0 < itemCount (bodyOf (exampleWords (10 ^ 12))) = omega (arith, ap length (example-items (10 ^ 12))) in
+        let own : itemPasses (bodyOf (exampleWords (10 ^ 12))) 0 ≡ 10 ^ 12 = example-passes (10 ^ 12) 0 (omega arith) in
+        let done = k .2 0 n in
+        let below : 0 < itemCount (planBody plan) = omega (arith, items-four (10 ^ 12) longest most-passes-read plan s F) in
+        let formed = ready (10 ^ 12) longest most-passes-read plan s F (k .0) .counts-formed 0 below in
+        let few : 2 ^ 32 - 1 < startsOf (bodyOf (exampleWords (10 ^ 12))) plan s 0 (k .0) =
+        ⊎-elim (λ e. omega (arith, e, O .counted 0 n .0, O .counted 0 n .1, done, own)) (λ e. omega (arith, e .0, O .counted 0 n .0, O .counted 0 n .1, done, own)) (formed .started) in
+        let found = nth-start plan (k .0) s (2 ^ 32 - 1) few in
+        (found .0, order (10 ^ 12) longest most-passes-read plan s F (found .0) .counted 0 n .0 ∙ found .1, found .2)
+
   -- no pass
   module _ (plan : List ℕ) (s : Lent) (F : Fresh 0 plan s) where
     ended : (l : List Call) → AtEnd (bodyOf (exampleWords 0)) plan s l
@@ -247,6 +262,7 @@ module _ (D : Demands) where
         most-passes-end = most-passes-end;
         most-passes-reached = most-passes-reached;
         past-32-bits = past-32-bits;
+        past-32-reached = past-32-reached;
         ahead-read = ahead-read;
         ahead-passes = ahead-passes;
         ahead-printed = ahead-printed;

@@ -124,10 +124,12 @@ pub record Table : Type 0 where
   pub most-passes-end : (plan : List ℕ) (s : Lent) → Fresh (10 ^ 12) plan s → (l : List Call) → after plan s l (result 0) .refusal ≡ 0 →
       (accepted plan isStep s l ≡ 8 * 10 ^ 12) × Accepts (after plan s l (result 0)) (10 ^ 12 + 5)
   pub most-passes-reached : (plan : List ℕ) (s : Lent) → Fresh (10 ^ 12) plan s → (l : List Call) × (after plan s l (result 0) .refusal ≡ 0)
-  -- a start that takes the count of item 0 to 2^32
+  -- a start that takes the count of item 0 to 2^32 answers 2^32 + 5; some list leads to it
   pub past-32-bits : (plan : List ℕ) (s : Lent) → Fresh (10 ^ 12) plan s → (l : List Call) →
       getD (play plan s l .counts) 0 0 ≡ 2 ^ 32 - 1 → after plan s l (start 0) .refusal ≡ 0 →
       (after plan s l (start 0) .word ≡ 2 ^ 32 + 5) × (getD (after plan s l (start 0) .counts) 0 0 ≡ 2 ^ 32)
+  pub past-32-reached : (plan : List ℕ) (s : Lent) → Fresh (10 ^ 12) plan s →
+      (l : List Call) × (getD (play plan s l .counts) 0 0 ≡ 2 ^ 32 - 1) × (after plan s l (start 0) .refusal ≡ 0)
   -- D kernel 3 on four times 2^64 - 1, E on 1, 1, 1, 0, as card 3 has it
   pub case-d : (c : ℕ) → kernelWord 3 c ((2 ^ 64 - 1) ∷ (2 ^ 64 - 1) ∷ (2 ^ 64 - 1) ∷ (2 ^ 64 - 1) ∷ []) ≡ 2 ^ 64 - 1
   pub case-e : (c : ℕ) → kernelWord 3 c (1 ∷ 1 ∷ 1 ∷ 0 ∷ []) ≡ 1
