@@ -1,7 +1,7 @@
 -- Counts of passes as the code compares them. They serve the contracts of inner functions.
 use Prim.Native.Nat.{ℕ, _+_, _-_, _%_, _^_}
 
--- the least number whose top bit is set; every count of passes lies below it
+-- the least number whose top bit is set; counts in form lie below it, lent ones need not
 abbrev pub topBit : ℕ
 topBit = 2 ^ 63
 
