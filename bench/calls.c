@@ -1,7 +1,8 @@
 /* Makes one call, for an instruction count of it: calls (read|form|items|edges|total) PLAN, or
-   calls write PLAN [LENGTH], where the text slice has this length, else TASKITER_TEXT_BYTES. Prints
-   what the count is set against: the text's length, or the number that the call answers; where
-   writing is refused, the refusal. */
+   calls write PLAN [LENGTH], where the text slice has this length, else TASKITER_TEXT_BYTES, or
+   calls read (name|number), where the text is no plan but one long field. Prints what the count is
+   set against: the text's length, or the number that the call answers; where writing is refused,
+   the refusal. */
 #include <stdbool.h>
 #include <stddef.h>
 #include <stdint.h>
@@ -10,6 +11,8 @@
 #include "../include/taskiter.h"
 #include "plans.h"
 
+enum { FIELD_BYTES = 32700 };
+
 bool bench_in_form(const uint64_t *plan, size_t words);
 
 static char text[TEXT_ROOM];
@@ -17,6 +20,17 @@ static uint64_t plan[TASKITER_PLAN_WORDS];
 static uint16_t items[TASKITER_MAX_ITEMS];
 static uint32_t list[TASKITER_EDGE_NUMBERS];
 static uint8_t written[TASKITER_TEXT_BYTES];
+
+/* Puts a line that is refused with 1 for its last field, which has FIELD_BYTES bytes; gives its
+   length, and 0 where the name is another. */
+static int put_field(const char *name) {
+    bool letters = strcmp(name, "name") == 0;
+    if (!letters && strcmp(name, "number") != 0)
+        return 0;
+    int at = put(text, 0, letters ? "" : "start\t0\t");
+    memset(text + at, letters ? 'x' : '7', FIELD_BYTES);
+    return put(text, at + FIELD_BYTES, "\n");
+}
 
 /* Writes the plan into the first bytes of `written`; gives the length of its text, or the
    refusal. */
@@ -28,10 +42,11 @@ static uint64_t write_plan(size_t length) {
 int main(int argc, char **argv) {
     if (argc < 3)
         return 2;
-    int length = named_plan(text, argv[2]);
+    int field = put_field(argv[2]);
+    int length = field > 0 ? field : named_plan(text, argv[2]);
     taskiter_reading answer =
         taskiter_read((const uint8_t *)text, (size_t)length, plan, TASKITER_PLAN_WORDS);
-    if (answer.refusal != 0) {
+    if (answer.refusal != (field > 0 ? 1 : 0)) {
         fprintf(stderr, "refused %" PRIu64 " %" PRIu64 "\n", answer.refusal, answer.line);
         return 1;
     }

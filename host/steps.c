@@ -313,7 +313,7 @@ void graph_group(struct trial *trial, struct rng *rng) {
     try_total(trial, PLAN_WORDS + (size_t)draw_below(rng, GUARD));
 }
 
-static void *room(size_t size) {
+void *room(size_t size) {
     void *block = malloc(size > 0 ? size : 1);
     if (block == NULL)
         exit(2);

@@ -94,6 +94,7 @@ static void run_groups(struct count *all) {
     run_group("bare", bare_group, all->each, all);
     run_group("means", means_group, all->each, all);
     run_group("passes", passes_group, all->each, all);
+    run_group("search", search_group, all->each, all);
     print_line("all", all->plans, all->calls, all->texts, all->answered);
     print_traits(all);
 }

@@ -1,6 +1,7 @@
-/* The group of stress that reads texts. */
+/* The groups of stress that read texts. */
 #include <inttypes.h>
 #include <stdio.h>
+#include <stdlib.h>
 #include <string.h>
 
 #include "groups.h"
@@ -320,4 +321,86 @@ void reading_group(struct trial *trial, struct rng *rng) {
     memcpy(damaged, text, length);
     try_long_texts(trial, rng, damaged, length);
     try_limits(trial, rng);
+}
+
+static bool is_separator(uint8_t byte) {
+    return byte == '\t' || byte == '\n';
+}
+
+/* A separator of the text, by its place. */
+static size_t draw_separator(struct rng *rng, const uint8_t *text, size_t length) {
+    size_t at = (size_t)draw_below(rng, (int)length);
+    while (!is_separator(text[at]))
+        at = (at + 1) % length;
+    return at;
+}
+
+/* A byte that a search could take for this separator: with one bit of it changed, the other one, or
+   any, with the top bit set or not. */
+static uint8_t draw_like(struct rng *rng, uint8_t separator) {
+    switch (draw_below(rng, 4)) {
+    case 0:
+        return separator ^ (uint8_t)(1 << draw_below(rng, 8));
+    case 1:
+        return separator == '\t' ? '\n' : '\t';
+    case 2:
+        return (uint8_t)draw(rng) | 0x80;
+    default:
+        return (uint8_t)draw(rng);
+    }
+}
+
+/* Changes a text about a separator and answers its length: puts such a byte in its place, some
+   before it or behind it, or cuts the text there. */
+static size_t change_separator(struct rng *rng, uint8_t *text, size_t length) {
+    uint8_t like[40];
+    size_t at = draw_separator(rng, text, length);
+    size_t size = 1 + (size_t)draw_below(rng, draw_below(rng, 2) == 0 ? 2 : (int)sizeof like);
+    for (size_t k = 0; k < size; k++)
+        like[k] = draw_like(rng, text[at]);
+    switch (draw_below(rng, 5)) {
+    case 0:
+        return replace(text, length, at, at, like, size);
+    case 1:
+        return replace(text, length, at + 1, at + 1, like, size);
+    case 2:
+        return at + (size_t)draw_below(rng, 2);
+    default:
+        text[at] = like[0];
+        return length;
+    }
+}
+
+/* Reads a text from a block that ends where the text ends, at any place in a word. */
+static struct reading try_block(struct trial *trial, struct rng *rng, const uint8_t *text,
+                                size_t length) {
+    size_t from = (size_t)draw_below(rng, 8);
+    uint8_t *block = room(from + length);
+    memcpy(block + from, text, length);
+    struct reading reading = try_text(trial, rng, block + from, length);
+    free(block);
+    return reading;
+}
+
+/* A word of any number of digits. */
+static uint64_t draw_digits(struct rng *rng) {
+    return draw(rng) >> draw_below(rng, 64);
+}
+
+void search_group(struct trial *trial, struct rng *rng) {
+    static char text[TEXT_ROOM];
+    static uint8_t changed[2 * TEXT_ROOM];
+    static struct plan plan;
+    draw_plan(rng, SMALL, &plan);
+    for (int g = 0; g < plan.regions; g++)
+        plan.start[g] = draw_digits(rng);
+    for (int i = 0; i < plan.tasks; i++)
+        plan.task[i].constant = draw_digits(rng);
+    size_t length = (size_t)draw_text(rng, &plan, text);
+    if (try_block(trial, rng, (const uint8_t *)text, length).refusal != 0)
+        differ(trial, "a plan's text is refused");
+    for (int k = 0; k < 16; k++) {
+        memcpy(changed, text, length);
+        try_block(trial, rng, changed, change_separator(rng, changed, length));
+    }
 }

@@ -1,4 +1,5 @@
 pub mod Laws
+pub mod MarkLaws
 pub mod NumberLaws
 pub mod WordLaws
 pub mod SplitLaws

@@ -4,19 +4,74 @@
 ghost use mathlib.Core.Path.{_≡_};
 ghost use mathlib.Core.List.{[]};
 ghost use mathlib.Core.Bool.{true};
-ghost use Prim.Native.Nat.{_≤_};
+ghost use Prim.Native.Nat.{_+_, _*_, _≤_};
 ghost use lib.Dec.{ltb};
-ghost use lib.ListN.{length, drop};
-ghost use Rattle.text.specs.Text.{before};
+ghost use lib.ListN.{length, take, drop};
+ghost use Rattle.text.specs.Text.{before, bytes};
+ghost use Rattle.text.specs.Marks.{Marks};
 ghost use Rattle.text.specs.Numbers.{allDigits, noLeadingZero, decimalAfter, wellFormed, numberOf};
 ghost use Rattle.text.specs.Words.{alike, keywordOf};
 ghost use Rattle.text.specs.Records.{is, firstField, split, sound, oneOf, twoOf, threeOf, loopOf, beginOf, startOf, accessOf, byWord, recordOf, recordAt, nextOf, nextAt};
 
+// Eight bytes as one word, the first lowest.
+fn word_of(a: u8, b: u8, c: u8, d: u8, e: u8, f: u8, g: u8, h: u8) -> u64
+    ensures { λ r. ⌜ r ≡ a + 256 * (b + 256 * (c + 256 * (d + 256 * (e + 256 * (f + 256 * (g + 256 * h)))))) ⌝ }
+{
+    a as u64
+        + b as u64 * 0x100
+        + c as u64 * 0x1_0000
+        + d as u64 * 0x100_0000
+        + e as u64 * 0x1_0000_0000
+        + f as u64 * 0x100_0000_0000
+        + g as u64 * 0x1_0000_0000_0000
+        + h as u64 * 0x100_0000_0000_0000
+}
+
+// The eight bytes from i on as one word. The language has no such load; LLVM makes one of this.
+fn word_at(s: &[u8], i: usize) -> u64
+    requires { ⌜ i + 8 ≤ length (now s) ⌝ }
+    ensures { λ r. ⌜ bytes 8 r ≡ take 8 (drop i (now (s .entry))) ⌝ }
+{
+    word_of(
+        s[i],
+        s[i + 1],
+        s[i + 2],
+        s[i + 3],
+        s[i + 4],
+        s[i + 5],
+        s[i + 6],
+        s[i + 7],
+    )
+}
+
+// The byte 1 on each of a word's eight places.
+const ONES: u64 = 0x0101_0101_0101_0101;
+
+// The top bit of each of its bytes.
+const TOP_BITS: u64 = 0x8080_8080_8080_8080;
+
+// Marks the first byte of w that is b by its top bit; higher marks mean nothing. 0 where no byte is
+// b.
+fn marks(w: u64, b: u8) -> u64
+    ensures { λ r. ⌜ Marks 8 b w r ⌝ }
+{
+    let x = w ^ (b as u64 * ONES);
+    std::num::wrapping_sub_u64(x, ONES) & !x & TOP_BITS
+}
+
 // How many bytes stand before the first b, or all of them: the one search for a tab or a line feed.
+// It goes by words of eight bytes, and by single bytes where fewer are left.
 fn find(s: &[u8], b: u8) -> usize
     ensures { λ r. ⌜ r ≡ before (is b) (now (s .entry)) ⌝ }
 {
     let mut i = 0;
+    while i + 8 <= s.len() {
+        let m = marks(word_at(s, i), b);
+        if m != 0 {
+            return i + (u64::trailing_zeros(m) / 8) as usize;
+        }
+        i += 8;
+    }
     while i < s.len() {
         if s[i] == b {
             return i;
