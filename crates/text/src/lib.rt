@@ -59,8 +59,23 @@ fn marks(w: u64, b: u8) -> u64
     std::num::wrapping_sub_u64(x, ONES) & !x & TOP_BITS
 }
 
+// Where the first b stands from `at` on, byte by byte: the end where there is none, and `at` itself
+// beyond the end.
+fn find_from(s: &[u8], at: usize, b: u8) -> usize
+    ensures { λ r. ⌜ r ≡ at + before (is b) (drop at (now (s .entry))) ⌝ }
+{
+    let mut i = at;
+    while i < s.len() {
+        if s[i] == b {
+            return i;
+        }
+        i += 1;
+    }
+    i
+}
+
 // How many bytes stand before the first b, or all of them: the one search for a tab or a line feed.
-// It goes by words of eight bytes, and by single bytes where fewer are left.
+// It goes by words of eight bytes, and byte by byte where fewer are left.
 fn find(s: &[u8], b: u8) -> usize
     ensures { λ r. ⌜ r ≡ before (is b) (now (s .entry)) ⌝ }
 {
@@ -72,13 +87,7 @@ fn find(s: &[u8], b: u8) -> usize
         }
         i += 8;
     }
-    while i < s.len() {
-        if s[i] == b {
-            return i;
-        }
-        i += 1;
-    }
-    i
+    find_from(s, i, b)
 }
 
 // The first field, as a part of the caller's text: the bytes before the first tab, or all of them.
