@@ -1,6 +1,6 @@
 /* Makes one call, for an instruction count of it: calls (read|form|items|edges|total) PLAN, or
    calls write PLAN [LENGTH], where the text slice has this length, else TASKITER_TEXT_BYTES, or
-   calls read (name|number), where the text is no plan but one long field. Prints what the count is
+   calls read (name|number), where the text is a line with one long field. Prints what the count is
    set against: the text's length, or the number that the call answers; where writing is refused,
    the refusal. */
 #include <stdbool.h>

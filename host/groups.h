@@ -46,14 +46,14 @@ void means_group(struct trial *trial, struct rng *rng);
    2^32, are refused. */
 void passes_group(struct trial *trial, struct rng *rng);
 
-/* Texts of lines of any length, with bytes about a tab or a line feed that a search could take for
-   one, in blocks that end where the text ends. */
+/* Texts whose numbers have any number of digits, with bytes about a tab or a line feed that a
+   search could take for it, in blocks that end where the text ends. The plans are small. */
 void search_group(struct trial *trial, struct rng *rng);
 
 /* The size of a group's plan: of 32, two have as many items as there can be, and two are large. */
 enum size size_of(long number);
 
-/* A block of exactly this size, which is not set. */
+/* A block of this size, or of one byte where it is 0, which is not set. */
 void *room(size_t size);
 
 /* A random plan in memory that is otherwise filled at random. */

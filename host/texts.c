@@ -335,8 +335,8 @@ static size_t draw_separator(struct rng *rng, const uint8_t *text, size_t length
     return at;
 }
 
-/* A byte that a search could take for this separator: with one bit of it changed, the other one, or
-   any, with the top bit set or not. */
+/* A byte that a search could take for this separator: one bit of it changed, the other separator,
+   any above 127, or any. */
 static uint8_t draw_like(struct rng *rng, uint8_t separator) {
     switch (draw_below(rng, 4)) {
     case 0:
@@ -350,23 +350,24 @@ static uint8_t draw_like(struct rng *rng, uint8_t separator) {
     }
 }
 
-/* Changes a text about a separator and answers its length: puts such a byte in its place, some
-   before it or behind it, or cuts the text there. */
+/* Changes a text about a separator and answers its length. Puts bytes that a search could take for
+   it, or digits, in its place, before it or behind it; or cuts the text before it or behind it. */
 static size_t change_separator(struct rng *rng, uint8_t *text, size_t length) {
-    uint8_t like[40];
+    uint8_t bytes[40];
     size_t at = draw_separator(rng, text, length);
-    size_t size = 1 + (size_t)draw_below(rng, draw_below(rng, 2) == 0 ? 2 : (int)sizeof like);
+    size_t size = 1 + (size_t)draw_below(rng, draw_below(rng, 2) == 0 ? 2 : (int)sizeof bytes);
+    bool digits = draw_below(rng, 4) == 0;
     for (size_t k = 0; k < size; k++)
-        like[k] = draw_like(rng, text[at]);
+        bytes[k] = digits ? (uint8_t)('1' + draw_below(rng, 9)) : draw_like(rng, text[at]);
     switch (draw_below(rng, 5)) {
     case 0:
-        return replace(text, length, at, at, like, size);
+        return replace(text, length, at, at, bytes, size);
     case 1:
-        return replace(text, length, at + 1, at + 1, like, size);
+        return replace(text, length, at + 1, at + 1, bytes, size);
     case 2:
         return at + (size_t)draw_below(rng, 2);
     default:
-        text[at] = like[0];
+        text[at] = bytes[0];
         return length;
     }
 }
@@ -392,6 +393,7 @@ void search_group(struct trial *trial, struct rng *rng) {
     static uint8_t changed[2 * TEXT_ROOM];
     static struct plan plan;
     draw_plan(rng, SMALL, &plan);
+    plan.passes = draw_digits(rng) % (MAX_PASSES + 1);
     for (int g = 0; g < plan.regions; g++)
         plan.start[g] = draw_digits(rng);
     for (int i = 0; i < plan.tasks; i++)

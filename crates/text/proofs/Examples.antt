@@ -1,12 +1,8 @@
 -- Worked examples of the definitions, by computation: what a reader that is slightly wrong would
 -- get wrong. In bytes: a tab is 9, a line feed 10, a carriage return 13, a digit d is 48 + d.
-use Prim.Native.Nat.{ℕ}
 use mathlib.Core.Path.{_≡_, refl}
 use mathlib.Core.List.{[], _∷_}
-use native.Mathlib.Omega.{arith}
-use lib.Count.{trailingZeros}
 use Rattle.text.specs.Text.{bytes}
-use Rattle.text.specs.Marks.{Marks}
 use Rattle.text.specs.Numbers.{wellFormed, numberOf}
 use Rattle.text.specs.Ascii.{ascii}
 use Rattle.text.specs.Words.{keywordOf}
@@ -225,30 +221,8 @@ text-at-end = refl
 text-beyond : recordAt (ascii "end\n") 9 ≡ Unended
 text-beyond = refl
 
--- words of eight bytes and their marks
+-- words
 
--- the first byte is the lowest, and the tab, the sixth, is marked
+-- the first of eight bytes is the lowest
 word-first-lowest : bytes 8 0x3231_0974_756f_6e69 ≡ ascii "inout\t12"
 word-first-lowest = refl
-
-mark-tab : Marks 8 9 0x3231_0974_756f_6e69 0x8000_0000_0000
-unfolding trailingZeros
-mark-tab = record { offset = refl; found = λ _. omega arith }
-
--- a backspace behind the tab may be marked too: nothing is said of higher marks
-mark-above : Marks 2 9 0x0809 0x8080
-unfolding trailingZeros
-mark-above = record { offset = refl; found = λ _. omega arith }
-
--- no marks: of a tab with its top bit set, of the second of two tabs, and none of a tab
-mark-high-byte : Marks 1 9 0x89 0x80 → ⊥
-unfolding trailingZeros
-mark-high-byte m = let z : _≡_ {A = ℕ} 0 1 = m .offset in omega arith
-
-mark-highest : Marks 2 9 0x0909 0x8000 → ⊥
-unfolding trailingZeros
-mark-highest m = let z : _≡_ {A = ℕ} 1 0 = m .offset in omega arith
-
-mark-missing : Marks 1 9 9 0 → ⊥
-unfolding trailingZeros
-mark-missing m = let z : _≡_ {A = ℕ} 1 0 = m .offset in omega arith

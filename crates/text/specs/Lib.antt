@@ -3,4 +3,3 @@ pub mod Text
 pub mod Numbers
 pub mod Words
 pub mod Records
-pub mod Marks

@@ -4,11 +4,11 @@
 ghost use mathlib.Core.Path.{_≡_};
 ghost use mathlib.Core.List.{[]};
 ghost use mathlib.Core.Bool.{true};
-ghost use Prim.Native.Nat.{_+_, _*_, _≤_};
+ghost use Prim.Native.Nat.{_+_, _*_, _/_, _≤_};
 ghost use lib.Dec.{ltb};
+ghost use lib.Count.{trailingZeros};
 ghost use lib.ListN.{length, take, drop};
 ghost use Rattle.text.specs.Text.{before, bytes};
-ghost use Rattle.text.specs.Marks.{Marks};
 ghost use Rattle.text.specs.Numbers.{allDigits, noLeadingZero, decimalAfter, wellFormed, numberOf};
 ghost use Rattle.text.specs.Words.{alike, keywordOf};
 ghost use Rattle.text.specs.Records.{is, firstField, split, sound, oneOf, twoOf, threeOf, loopOf, beginOf, startOf, accessOf, byWord, recordOf, recordAt, nextOf, nextAt};
@@ -47,13 +47,13 @@ fn word_at(s: &[u8], i: usize) -> u64
 // The byte 1 on each of a word's eight places.
 const ONES: u64 = 0x0101_0101_0101_0101;
 
-// The top bit of each of its bytes.
+// The top bit of each of a word's eight bytes.
 const TOP_BITS: u64 = 0x8080_8080_8080_8080;
 
-// Marks the first byte of w that is b by its top bit; higher marks mean nothing. 0 where no byte is
-// b.
+// Marks the first byte of w that is b, by a bit of it. No bit below is set, those above mean
+// nothing, and the answer is 0 where no byte is b.
 fn marks(w: u64, b: u8) -> u64
-    ensures { λ r. ⌜ Marks 8 b w r ⌝ }
+    ensures { λ r. ⌜ trailingZeros 64 r / 8 ≡ before (is b) (bytes 8 w) ⌝ }
 {
     let x = w ^ (b as u64 * ONES);
     std::num::wrapping_sub_u64(x, ONES) & !x & TOP_BITS

@@ -30,7 +30,7 @@ returns c =
     let at = word .before .before in
     let a = at .before .before .args in
     let l = drop (at .loop .i) (now (a .s)) in
-    omega (arith, mark-found (a .b) (word .word-at .result) (c .before .marks .result) l (c .before .marks .ensures) (word .word-at .ensures) (c .if1 .taken))
+    omega (arith, mark-found (a .b) (word .word-at .result) (c .before .marks .result) l (c .before .marks .ensures) (word .word-at .ensures) (search needs) (search needs))
 
 loop-again : tie.Need-loop-again Inv-loop μ-loop
 loop-again c =
