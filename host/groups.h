@@ -1,5 +1,5 @@
-/* The groups of calls that stress makes, each with one random plan. A trial's number decides the
-   size of its plan. */
+/* The groups of calls that stress makes, each with one random plan. In most of them a trial's
+   number decides the size of its plan. */
 #ifndef HOST_GROUPS_H
 #define HOST_GROUPS_H
 
