@@ -1,0 +1,5 @@
+pub mod Unmet
+pub mod Fresh
+pub mod Stored
+pub mod Bodies
+pub mod Theorems
