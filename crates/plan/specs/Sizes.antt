@@ -7,12 +7,16 @@ pub use Rattle.edges.specs.EdgeList.{maxEdges}
 abbrev pub maxItems : ℕ
 maxItems = 640
 
--- counts: a the started passes of item a, firstFinished + a its finished passes
+-- counts: a the started passes of item a, firstFinished + a its finished passes, firstUnmet + a how
+-- many of its waits are unmet
 abbrev pub countWords : ℕ
-countWords = 1280
+countWords = 1920
 
 abbrev pub firstFinished : ℕ
 firstFinished = 640
+
+abbrev pub firstUnmet : ℕ
+firstUnmet = 1280
 
 -- values: the copies; from firstSlot on (body/specs/Body.antt) the slots; firstHeld + a the word
 -- that item a holds

@@ -34,10 +34,13 @@ pub fn own_passes(passes: Count, code: u16) -> Count
 // Items that a plan can have: 128 tasks, and a send and a receive for each of 256 transfers.
 pub const MAX_ITEMS: usize = 640;
 
-// The counts: a the started passes of item a, FIRST_FINISHED + a its finished passes.
-pub const COUNTS: usize = 1280;
+// The counts: a the started passes of item a, FIRST_FINISHED + a its finished passes, FIRST_UNMET + a
+// how many of its waits are unmet.
+pub const COUNTS: usize = 1920;
 
 pub const FIRST_FINISHED: usize = 640;
+
+pub const FIRST_UNMET: usize = 1280;
 
 // The values: the copies, a slot for each item number, and a held word for each item.
 pub const VALUES: usize = 3328;

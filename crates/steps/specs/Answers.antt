@@ -13,9 +13,11 @@ use Rattle.unroll.specs.Machine.{State}
 use Rattle.body.specs.Body.{Body, firstSlot}
 use Rattle.body.specs.Items.{itemCount, itemPasses}
 use Rattle.body.specs.Places.{initial, system, resultOf as regionResult}
-use Rattle.edges.specs.Tests.{kindAt, waitsTest}
+use Rattle.edges.specs.Tests.{kindAt, edgeTest}
+use Rattle.waits.specs.Waits.{freshCount}
+use Rattle.waits.specs.Stored.{finishedNumbers}
 use Rattle.graph.specs.Answers.{refusalOf, longPlan, formedPlan, planBody, isItem}
-use Rattle.steps.specs.State.{countWords, valueWords, firstFinished, firstHeld, stateOf}
+use Rattle.steps.specs.State.{countWords, valueWords, firstFinished, firstUnmet, firstHeld, stateOf, doneBy, unmetBy}
 
 -- the answer, refusal 0 being none and the word of a refused call 0, and the lent state at exit
 pub record Left : Type 0 where
@@ -35,12 +37,13 @@ countOk passes s a =
 abbrev pub isComplete : Body → State → Bool
 isComplete B s = allBelow (itemCount B) (λ a. eqb (s .finished a) (itemPasses B a))
 
--- 14, 15 and 16 of a start, 17 of a finish, 18 of a result; 0 where none holds. The test of the waits is the rule's (Demands, demand 2)
-abbrev pub startTests : Body → State → ℕ → ℕ
-startTests B s a =
+-- 14, 15 and 16 of a start of item a with this number of unmet waits, 17 of a finish, 18 of a result;
+-- 0 where none holds. Of the waits a start looks at the item's own number alone
+abbrev pub startTests : Body → State → ℕ → ℕ → ℕ
+startTests B s number a =
     cond (ltb (s .finished a) (itemPasses B a))
     (cond (eqb (s .started a) (s .finished a))
-    (cond (waitsTest B (s .finished) (s .started a) a) 0 16)
+    (cond (eqb number 0) 0 16)
     15)
     14
 
@@ -53,7 +56,13 @@ resultTests B s = cond (isComplete B s) 0 18
 -- the state that a plan uses, by index: counts, and of the values copies, slots of sends, and held words
 module _ (B : Body) where
   abbrev pub isCount : ℕ → Bool
-  isCount i = ltb i (itemCount B) || (leb firstFinished i && ltb i (firstFinished + itemCount B))
+  isCount i =
+      ltb i (itemCount B)
+      || ((leb firstFinished i && ltb i (firstFinished + itemCount B)) || (leb firstUnmet i && ltb i (firstUnmet + itemCount B)))
+
+  -- a count at the opening: of unmet waits a fresh count, else 0
+  unfoldable pub openCount : ℕ → ℕ
+  openCount i = cond (leb firstUnmet i) (freshCount (system B) (edgeTest B) (λ b. 0) (i - firstUnmet)) 0
 
   abbrev pub isCopy : ℕ → Bool
   isCopy x = ltb x (B .ranks * B .regions)
@@ -71,10 +80,14 @@ module _ (plan counts values : List ℕ) where
   abbrev pub formedCounts : Bool
   formedCounts = allBelow (itemCount (planBody plan)) (λ a. countOk (itemPasses (planBody plan) a) (stateOf counts values) a)
 
+  -- no number of unmet waits is above the number of items
+  abbrev pub formedNumbers : Bool
+  formedNumbers = allBelow (itemCount (planBody plan)) (λ a. leb (unmetBy counts a) (itemCount (planBody plan)))
+
   -- 11, 12 and 13 of a step or result, where the plan's test of form gave `formed`; `within`: its
   -- number lies within its limit
   abbrev pub refusalBy : Bool → Bool → ℕ
-  refusalBy formed within = refusalOf longSlices (formed && formedCounts) within
+  refusalBy formed within = refusalOf longSlices (formed && (formedCounts && formedNumbers)) within
 
   abbrev pub callRefusal : Bool → ℕ
   callRefusal = refusalBy (formedPlan plan)
@@ -87,13 +100,14 @@ module _ (plan counts values : List ℕ) where
   abbrev pub unless : ℕ → Left → Left
   unless n accepted = cond (eqb n 0) accepted (refused n)
 
-  -- every copy holds its starting value; counts, slots and held words are 0; what the plan does not use stays
+  -- every copy holds its starting value; passes, slots and held words are 0; unmet waits are counted;
+  -- what the plan does not use stays
   abbrev pub opened : Left
   opened =
       record {
         refusal = 0;
         word = 0;
-        counts = replaced (isCount (planBody plan)) (λ i. 0) counts;
+        counts = replaced (isCount (planBody plan)) (openCount (planBody plan)) counts;
         values = replaced (λ x. isCopy (planBody plan) x || (isSlot (planBody plan) x || isHeld (planBody plan) x)) (initial (planBody plan)) values;
       }
 
@@ -119,10 +133,17 @@ module _ (plan counts values : List ℕ) where
       }
 
   abbrev pub startBy : Bool → ℕ → Left
-  startBy formed a = unless (refusalBy formed (isItem plan a)) (unless (startTests (planBody plan) (stateOf counts values) a) (started a))
+  startBy formed a = unless (refusalBy formed (isItem plan a)) (unless (startTests (planBody plan) (stateOf counts values) (unmetBy counts a) a) (started a))
 
   unfoldable pub startOf : ℕ → Left
   startOf = startBy (formedPlan plan)
+
+  -- the counts after a finish of item a: one is taken off the number of each other item whose wait
+  -- it meets, a 0 staying 0, its own is counted afresh, and the finish is counted
+  unfoldable pub finishedCounts : ℕ → List ℕ
+  finishedCounts a =
+      set (finishedNumbers (system (planBody plan)) (edgeTest (planBody plan)) firstUnmet (doneBy counts) a counts)
+      (firstFinished + a) (suc (doneBy counts a))
 
   -- the word that item a holds is answered, and goes to the places that a writes; the finish is counted
   abbrev pub finished : ℕ → Left
@@ -130,7 +151,7 @@ module _ (plan counts values : List ℕ) where
       record {
         refusal = 0;
         word = stateOf counts values .held a;
-        counts = set counts (firstFinished + a) (suc (stateOf counts values .finished a));
+        counts = finishedCounts a;
         values = replaced (λ x. mem x (system (planBody plan) .writes a)) (λ x. stateOf counts values .held a) values;
       }
 

@@ -4,33 +4,29 @@ use Prim.Native.Nat.{ℕ, _+_, _*_, _≤_, _<_}
 use mathlib.Core.Path.{_≡_}
 use mathlib.Core.Bool.{Bool, true, _&&_}
 use mathlib.Core.List.{List}
-use lib.Dec.{ltb}
+use lib.Dec.{eqb, ltb}
 use lib.ListN.{length, getD}
 use Rattle.finite.specs.Below.{sumBelow}
 use Rattle.body.specs.Body.{Body}
 use Rattle.body.specs.Items.{itemCount, itemPasses}
-use Rattle.edges.specs.Tests.{waitsTest}
 use Rattle.graph.specs.Answers.{planBody}
-use Rattle.steps.specs.State.{countWords, valueWords, firstFinished}
+use Rattle.steps.specs.State.{countWords, valueWords, doneBy, unmetBy, FreshNumbers}
 use Rattle.steps.specs.Answers.{formedCounts}
 use Rattle.steps.specs.Calls.{Call, isStep, Lent, play}
 use Rattle.steps.specs.Running.{Accepts, Taken}
 
--- the finished passes of item a
-abbrev pub doneBy : List ℕ → ℕ → ℕ
-doneBy counts a = getD counts (firstFinished + a) 0
-
--- an item that does not run may start: it has a pass left, and its waits are met
+-- an item that does not run may start: it has a pass left, and no unmet wait
 unfoldable pub isReady : Body → List ℕ → ℕ → Bool
-isReady B counts a = ltb (doneBy counts a) (itemPasses B a) && waitsTest B (doneBy counts) (doneBy counts a) a
+isReady B counts a = ltb (doneBy counts a) (itemPasses B a) && eqb (unmetBy counts a) 0
 
 module _ (plan : List ℕ) where
-  -- a lent state in form in which no item runs
+  -- a lent state in form in which no item runs, and each number is fresh
   pub record Idle (s : Lent) : Type 0 where
     pub long-counts : countWords ≤ length (s .counts)
     pub long-values : valueWords ≤ length (s .values)
     pub formed : formedCounts plan (s .counts) (s .values) ≡ true
     pub idle : (a : ℕ) → a < itemCount (planBody plan) → getD (s .counts) a 0 ≡ doneBy (s .counts) a
+    pub fresh : FreshNumbers (planBody plan) (s .counts)
 
   -- the state s after some turns from s₀, which took so many steps
   pub record Going (s₀ s : Lent) (steps : ℕ) : Type 0 where
