@@ -17,14 +17,15 @@ use Rattle.body.specs.Body.{Body}
 use Rattle.body.specs.Items.{itemCount, itemPasses}
 use Rattle.body.specs.Places.{system}
 use Rattle.body.proofs.Theorems.{laws}
-use Rattle.edges.specs.Tests.{waitsTest}
-use Rattle.edges.specs.Rule.{WaitsMet}
-use Rattle.edges.proofs.Decided.{waits-decided, rule-waits, waits-rule}
+use Rattle.edges.specs.Tests.{edgeTest}
+use Rattle.waits.specs.Waits.{Tells}
+use Rattle.waits.proofs.Fresh.{zero-starts}
+use Rattle.waits.proofs.Bodies.{tells}
 use Rattle.plan.specs.Layout.{planWords}
 use Rattle.graph.specs.Answers.{refusalOf, longPlan, formedPlan, planBody, isItem}
 use Rattle.graph.proofs.Small.{plan-fits, plan-small}
-use Rattle.steps.specs.State.{countWords, valueWords, stateOf}
-use Rattle.steps.specs.Answers.{Left, countOk, isComplete, startTests, finishTests, resultTests, longSlices, formedCounts, callRefusal, unless}
+use Rattle.steps.specs.State.{countWords, valueWords, stateOf, unmetBy, FreshNumbers}
+use Rattle.steps.specs.Answers.{Left, countOk, isComplete, startTests, finishTests, resultTests, longSlices, formedCounts, formedNumbers, callRefusal, unless}
 use Rattle.steps.specs.Answers.{opened, openOf, started, startOf, finished, finishOf, shown, resultOf}
 use Rattle.steps.specs.Calls.{Call, start, finish, result, Lent, call}
 
@@ -69,19 +70,22 @@ complete B s = (
   λ f. all-of (λ a. eqb (s .finished a) (itemPasses B a)) (itemCount B) (λ a l. eq-eqb (s .finished a) (itemPasses B a) (f a l)),
 )
 
-start-none : (B : Body) (s : State) (a : ℕ) → startTests B s a ≡ 0 →
-    (s .finished a < itemPasses B a) × (s .started a ≡ s .finished a) × (waitsTest B (s .finished) (s .started a) a ≡ true)
-start-none B s a = go (ltb (s .finished a) (itemPasses B a)) (eqb (s .started a) (s .finished a)) (waitsTest B (s .finished) (s .started a) a) refl refl
-  where
-    go : (x y z : Bool) → ltb (s .finished a) (itemPasses B a) ≡ x → eqb (s .started a) (s .finished a) ≡ y → _≡_ {A = ℕ} (cond x (cond y (cond z 0 16) 15) 14) 0 →
-        (s .finished a < itemPasses B a) × (s .started a ≡ s .finished a) × (z ≡ true)
-    go true true true p q e = (ltb-true (s .finished a) (itemPasses B a) p, eqb-true (s .started a) (s .finished a) q, refl)
-    go true true false p q e = absurd (omega arith)
-    go true false z p q e = absurd (omega arith)
-    go false y z p q e = absurd (omega arith)
+-- item a has a pass left, does not run, and its number of unmet waits is 0
+abbrev pub InTurn : Body → State → ℕ → ℕ → Type 0
+InTurn B s number a = (s .finished a < itemPasses B a) × (s .started a ≡ s .finished a) × (number ≡ 0)
 
-none-start : (B : Body) (s : State) (a : ℕ) → s .finished a < itemPasses B a → s .started a ≡ s .finished a → waitsTest B (s .finished) (s .started a) a ≡ true → startTests B s a ≡ 0
-none-start B s a l e w = rw (lt-ltb (s .finished a) (itemPasses B a) l, eq-eqb (s .started a) (s .finished a) e, w)
+start-none : (B : Body) (s : State) (number a : ℕ) → startTests B s number a ≡ 0 → InTurn B s number a
+start-none B s number a = go (ltb (s .finished a) (itemPasses B a)) (eqb (s .started a) (s .finished a)) (eqb number 0) refl refl refl
+  where
+    go : (x y z : Bool) → ltb (s .finished a) (itemPasses B a) ≡ x → eqb (s .started a) (s .finished a) ≡ y → eqb number 0 ≡ z →
+        _≡_ {A = ℕ} (cond x (cond y (cond z 0 16) 15) 14) 0 → InTurn B s number a
+    go true true true p q r e = (ltb-true (s .finished a) (itemPasses B a) p, eqb-true (s .started a) (s .finished a) q, eqb-true number 0 r)
+    go true true false p q r e = absurd (omega arith)
+    go true false z p q r e = absurd (omega arith)
+    go false y z p q r e = absurd (omega arith)
+
+none-start : (B : Body) (s : State) (number a : ℕ) → InTurn B s number a → startTests B s number a ≡ 0
+none-start B s number a t = rw (lt-ltb (s .finished a) (itemPasses B a) (t .0), eq-eqb (s .started a) (s .finished a) (t .1), eq-eqb number 0 (t .2))
 
 finish-none : (s : State) (a : ℕ) → finishTests s a ≡ 0 → s .started a ≡ s .finished a → ⊥
 finish-none s a h e = let z : _≡_ {A = ℕ} 17 0 = rw (eq-eqb (s .started a) (s .finished a) e) at h in omega arith
@@ -126,11 +130,22 @@ module _ (plan counts values : List ℕ) where
     λ f. all-of (λ a. countOk (itemPasses (planBody plan) a) (stateOf counts values) a) (itemCount (planBody plan)) (λ a l. count-ok (itemPasses (planBody plan) a) (stateOf counts values) a .1 (f a l)),
   )
 
+  pub formed-numbers : (formedNumbers plan counts values ≡ true) ↔ ((a : ℕ) → a < itemCount (planBody plan) → unmetBy counts a ≤ itemCount (planBody plan))
+  formed-numbers = (
+    λ h a l. leb-true (unmetBy counts a) (itemCount (planBody plan)) (all-at (λ a. leb (unmetBy counts a) (itemCount (planBody plan))) (itemCount (planBody plan)) a h l),
+    λ f. all-of (λ a. leb (unmetBy counts a) (itemCount (planBody plan))) (itemCount (planBody plan)) (λ a l. le-leb (unmetBy counts a) (itemCount (planBody plan)) (f a l)),
+  )
+
+  -- the counts and numbers of all items are in form
+  abbrev pub formedState : Bool
+  formedState = formedCounts plan counts values && formedNumbers plan counts values
+
   -- neither 11 nor 12 is given
   pub record Clear : Type 0 where
     pub long : longSlices plan counts values ≡ true
     pub formed-plan : formedPlan plan ≡ true
     pub formed-counts : formedCounts plan counts values ≡ true
+    pub formed-numbers : formedNumbers plan counts values ≡ true
 
   -- what holds of a refused call
   abbrev pub Unchanged : Left → Type 0
@@ -171,15 +186,17 @@ module _ (plan counts values : List ℕ) where
     judged-accepted h =
         let p = unless-accepted (callRefusal plan counts values within) (unless plan counts values tests made) h in
         let q = unless-accepted tests made (sym (ap (λ (r : Left). r .refusal) (p .1)) ∙ h) in
-        let t = refusal-none (longSlices plan counts values) (formedPlan plan && formedCounts plan counts values) within (p .0) in
-        let f = and-true (formedPlan plan) (formedCounts plan counts values) (t .1) in
-        (record { long = t .0; formed-plan = f .0; formed-counts = f .1 }, t .2, q .0, p .1 ∙ q .1)
+        let t = refusal-none (longSlices plan counts values) (formedPlan plan && formedState) within (p .0) in
+        let f = and-true (formedPlan plan) formedState (t .1) in
+        let g = and-true (formedCounts plan counts values) (formedNumbers plan counts values) (f .1) in
+        (record { long = t .0; formed-plan = f .0; formed-counts = g .0; formed-numbers = g .1 }, t .2, q .0, p .1 ∙ q .1)
 
     accepted-judged : Clear → within ≡ true → tests ≡ 0 → judged ≡ made
     accepted-judged c l e =
         unless-none (callRefusal plan counts values within) (unless plan counts values tests made)
-        (none-refusal (longSlices plan counts values) (formedPlan plan && formedCounts plan counts values) within (c .long)
-        (and-intro (formedPlan plan) (formedCounts plan counts values) (c .formed-plan) (c .formed-counts)) l)
+        (none-refusal (longSlices plan counts values) (formedPlan plan && formedState) within (c .long)
+        (and-intro (formedPlan plan) formedState (c .formed-plan)
+        (and-intro (formedCounts plan counts values) (formedNumbers plan counts values) (c .formed-counts) (c .formed-numbers))) l)
         ∙ unless-none tests made e
 
   -- opening
@@ -210,20 +227,20 @@ module _ (plan counts values : List ℕ) where
 
   pub start-short : (a : ℕ) → Short plan counts values → startOf plan counts values a .refusal ≡ 11
   unfolding startOf
-  start-short a = judged-short (isItem plan a) (startTests (planBody plan) (stateOf counts values) a) (started plan counts values a)
+  start-short a = judged-short (isItem plan a) (startTests (planBody plan) (stateOf counts values) (unmetBy counts a) a) (started plan counts values a)
 
   pub start-unchanged : (a : ℕ) → Unchanged (startOf plan counts values a)
   unfolding startOf
-  start-unchanged a = judged-unchanged (isItem plan a) (startTests (planBody plan) (stateOf counts values) a) (started plan counts values a) refl
+  start-unchanged a = judged-unchanged (isItem plan a) (startTests (planBody plan) (stateOf counts values) (unmetBy counts a) a) (started plan counts values a) refl
 
   start-parts : (a : ℕ) → startOf plan counts values a .refusal ≡ 0 →
-      Clear × (isItem plan a ≡ true) × (startTests (planBody plan) (stateOf counts values) a ≡ 0) × (startOf plan counts values a ≡ started plan counts values a)
+      Clear × (isItem plan a ≡ true) × (startTests (planBody plan) (stateOf counts values) (unmetBy counts a) a ≡ 0) × (startOf plan counts values a ≡ started plan counts values a)
   unfolding startOf
-  start-parts a = judged-accepted (isItem plan a) (startTests (planBody plan) (stateOf counts values) a) (started plan counts values a)
+  start-parts a = judged-accepted (isItem plan a) (startTests (planBody plan) (stateOf counts values) (unmetBy counts a) a) (started plan counts values a)
 
-  parts-start : (a : ℕ) → Clear → isItem plan a ≡ true → startTests (planBody plan) (stateOf counts values) a ≡ 0 → startOf plan counts values a ≡ started plan counts values a
+  parts-start : (a : ℕ) → Clear → isItem plan a ≡ true → startTests (planBody plan) (stateOf counts values) (unmetBy counts a) a ≡ 0 → startOf plan counts values a ≡ started plan counts values a
   unfolding startOf
-  parts-start a = accepted-judged (isItem plan a) (startTests (planBody plan) (stateOf counts values) a) (started plan counts values a)
+  parts-start a = accepted-judged (isItem plan a) (startTests (planBody plan) (stateOf counts values) (unmetBy counts a) a) (started plan counts values a)
 
   pub start-clear : (a : ℕ) → startOf plan counts values a .refusal ≡ 0 → Clear
   start-clear a h = start-parts a h .0
@@ -231,36 +248,41 @@ module _ (plan counts values : List ℕ) where
   pub start-started : (a : ℕ) → startOf plan counts values a .refusal ≡ 0 → startOf plan counts values a ≡ started plan counts values a
   start-started a h = start-parts a h .3
 
-  -- exactly by the papers' words
-  pub start-rule : Clear → (a : ℕ) → (startOf plan counts values a .refusal ≡ 0) ↔ StartRule (system (planBody plan)) (stateOf counts values) a
-  start-rule c a = (to, from)
+  -- by the item's own number
+  pub start-turn : Clear → (a : ℕ) → (startOf plan counts values a .refusal ≡ 0)
+      ↔ ((a < itemCount (planBody plan)) × InTurn (planBody plan) (stateOf counts values) (unmetBy counts a) a)
+  start-turn c a = (
+    λ h.
+        let p = start-parts a h in
+        (ltb-true a (itemCount (planBody plan)) (p .1), start-none (planBody plan) (stateOf counts values) (unmetBy counts a) a (p .2)),
+    λ h.
+        ap (λ (x : Left). x .refusal)
+        (parts-start a c (lt-ltb a (itemCount (planBody plan)) (h .0)) (none-start (planBody plan) (stateOf counts values) (unmetBy counts a) a (h .1))),
+  )
+
+  -- where the numbers are fresh, by the waits, and exactly by the papers' words
+  pub start-can : Clear → FreshNumbers (planBody plan) counts → (a : ℕ) →
+      (startOf plan counts values a .refusal ≡ 0) ↔ CanStart (system (planBody plan)) (stateOf counts values) a
+  start-can c f a = (to, from)
     where
-      waits : a < itemCount (planBody plan) →
-          (waitsTest (planBody plan) (stateOf counts values .finished) (stateOf counts values .started a) a ≡ true)
-          ↔ WaitsMet (planBody plan) (stateOf counts values .finished) a (stateOf counts values .started a)
-      waits l =
-          waits-decided (planBody plan) (plan-fits (take planWords plan) (c .formed-plan)) (plan-small (take planWords plan) (c .formed-plan) .regions)
-          (stateOf counts values .finished) a (stateOf counts values .started a) l
+      T : Tells (system (planBody plan)) (edgeTest (planBody plan))
+      T = tells (planBody plan) (plan-fits (take planWords plan) (c .formed-plan)) (plan-small (take planWords plan) (c .formed-plan) .regions)
 
-      to : startOf plan counts values a .refusal ≡ 0 → StartRule (system (planBody plan)) (stateOf counts values) a
+      to : startOf plan counts values a .refusal ≡ 0 → CanStart (system (planBody plan)) (stateOf counts values) a
       to h =
-          let p = start-parts a h in
-          let l : a < itemCount (planBody plan) = ltb-true a (itemCount (planBody plan)) (p .1) in
-          let t = start-none (planBody plan) (stateOf counts values) a (p .2) in
-          let w = waits l .0 (t .2) in
-          waits-rule (planBody plan) (stateOf counts values) a l (t .0) (t .1) w
+          let t = start-turn c a .0 h in
+          zero-starts (system (planBody plan)) (edgeTest (planBody plan)) T (stateOf counts values) a (t .0) (t .1 .0) (t .1 .1) .0 (sym (f a (t .0)) ∙ t .1 .2)
 
-      from : StartRule (system (planBody plan)) (stateOf counts values) a → startOf plan counts values a .refusal ≡ 0
-      from r =
-          ap (λ (x : Left). x .refusal)
-          (parts-start a c (lt-ltb a (itemCount (planBody plan)) (r .in-range))
-          (none-start (planBody plan) (stateOf counts values) a (r .left) (r .idle)
-          (waits (r .in-range) .1 (rule-waits (planBody plan) (plan-fits (take planWords plan) (c .formed-plan)) (stateOf counts values) a r))))
+      from : CanStart (system (planBody plan)) (stateOf counts values) a → startOf plan counts values a .refusal ≡ 0
+      from k =
+          let z = zero-starts (system (planBody plan)) (edgeTest (planBody plan)) T (stateOf counts values) a (k .in-range) (k .left) (k .idle) .1 k in
+          start-turn c a .1 (k .in-range, (k .left, k .idle, f a (k .in-range) ∙ z))
 
-  pub start-can : Clear → (a : ℕ) → (startOf plan counts values a .refusal ≡ 0) ↔ CanStart (system (planBody plan)) (stateOf counts values) a
-  start-can c a =
+  pub start-rule : Clear → FreshNumbers (planBody plan) counts → (a : ℕ) →
+      (startOf plan counts values a .refusal ≡ 0) ↔ StartRule (system (planBody plan)) (stateOf counts values) a
+  start-rule c f a =
       let r = laws .start-rule (planBody plan) (stateOf counts values) a in
-      (λ h. r .1 (start-rule c a .0 h), λ k. start-rule c a .1 (r .0 k))
+      (λ h. r .0 (start-can c f a .0 h), λ k. start-can c f a .1 (r .1 k))
 
   -- finish
 

@@ -1,5 +1,6 @@
 pub mod Accepting
 pub mod Placing
+pub mod Numbered
 pub mod Simulating
 pub mod Playing
 pub mod Answering

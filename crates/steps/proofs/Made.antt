@@ -1,8 +1,9 @@
 -- What an accepted call has left: an opening the plan's part of the state, a start or finish the word, one count more and the values that it
 -- changes, a result its word.
-use Prim.Native.Nat.{ℕ, suc, _+_, _≤_, _<_}
-use mathlib.Core.Path.{_≡_, refl, sym, _∙_, ap}
+use Prim.Native.Nat.{ℕ, suc, _+_, _-_, _≤_, _<_}
+use mathlib.Core.Path.{_≡_, refl, sym, _∙_, ap, subst}
 use mathlib.Core.Bool.{Bool, true, false, cond, _||_}
+use mathlib.Core.Logic.{_⊎_}
 use mathlib.Core.List.{List}
 use mathlib.Core.Option.{Option, none, some}
 use native.Mathlib.Omega.{arith}
@@ -10,6 +11,7 @@ use borrow.Author.Tests.{eq-eqb, ne-eqb}
 use lib.ListN.{length, getD, set, take}
 use Rattle.finite.specs.Lists.{mem}
 use Rattle.finite.specs.Update.{replaced}
+use Rattle.finite.proofs.Update.{update-same}
 use Rattle.finite.proofs.Replaced.{length-replaced, replaced-at, replaced-not}
 use Rattle.unroll.specs.System.{writing}
 use Rattle.unroll.specs.Sequential.{wordOn}
@@ -21,15 +23,18 @@ use Rattle.body.specs.Places.{slot, copy, initial, system, resultFrom, resultOf
 use Rattle.body.specs.Meaning.{LastWriter}
 use Rattle.body.proofs.Writers.{last-writer}
 use Rattle.body.proofs.Places.{copy-below, copy-opening, slot-opening}
+use Rattle.edges.specs.Tests.{edgeTest}
+use Rattle.waits.specs.Waits.{freshCount, meets}
 use Rattle.plan.specs.Sizes.{maxItems}
 use Rattle.plan.specs.Layout.{planWords}
 use Rattle.graph.specs.Answers.{formedPlan, planBody}
 use Rattle.graph.proofs.Small.{plan-fits}
-use Rattle.steps.specs.State.{countWords, valueWords, firstFinished, firstHeld, stateOf}
-use Rattle.steps.specs.Answers.{Left, isCount, isCopy, isSlot, isHeld, opened, openOf, startOf, finishOf, resultOf}
+use Rattle.steps.specs.State.{countWords, valueWords, firstFinished, firstUnmet, firstHeld, stateOf, doneBy, unmetBy, FreshNumbers}
+use Rattle.steps.specs.Answers.{Left, isCount, openCount, isCopy, isSlot, isHeld, opened, openOf, startOf, finishedCounts, finishOf, resultOf}
 use Rattle.steps.proofs.Accepting.{long-slices, open-opened, open-accepted, start-started, finish-clear, finish-can, finish-finished, result-shown}
 use Rattle.steps.proofs.Placing.{copy-opened, slot-opened, held-opened, held-opening, items-few, place-below}
-use Rattle.steps.proofs.Simulating.{opened-started, opened-finished, opened-value}
+use Rattle.steps.proofs.Numbered.{opened-started, opened-finished, opened-fresh, finished-size, finished-stay, finished-done, finished-own, finished-other}
+use Rattle.steps.proofs.Simulating.{opened-value}
 
 -- a result, by its region's last writer
 
@@ -73,20 +78,23 @@ module _ (plan counts values : List ℕ) where
 
     -- counts
 
-    open-counts : openOf plan counts values .counts ≡ replaced (isCount (planBody plan)) (λ i. 0) counts
+    open-counts : openOf plan counts values .counts ≡ replaced (isCount (planBody plan)) (openCount (planBody plan)) counts
     open-counts = ap (λ (r : Left). r .counts) open-is
 
     pub open-count-size : length (openOf plan counts values .counts) ≡ length counts
-    open-count-size = ap length open-counts ∙ length-replaced (isCount (planBody plan)) (λ i. 0) counts
+    open-count-size = ap length open-counts ∙ length-replaced (isCount (planBody plan)) (openCount (planBody plan)) counts
 
     pub open-started : (a : ℕ) → a < itemCount (planBody plan) → getD (openOf plan counts values .counts) a 0 ≡ 0
-    open-started a l = ap (λ (r : Left). getD (r .counts) a 0) open-is ∙ opened-started plan open-form counts values (open-long .1) (open-long .2) a l
+    open-started a l = ap (λ (r : Left). getD (r .counts) a 0) open-is ∙ opened-started plan counts values open-few (open-long .1) a l
 
     pub open-finished : (a : ℕ) → a < itemCount (planBody plan) → getD (openOf plan counts values .counts) (firstFinished + a) 0 ≡ 0
-    open-finished a l = ap (λ (r : Left). getD (r .counts) (firstFinished + a) 0) open-is ∙ opened-finished plan open-form counts values (open-long .1) (open-long .2) a l
+    open-finished a l = ap (λ (r : Left). getD (r .counts) (firstFinished + a) 0) open-is ∙ opened-finished plan counts values open-few (open-long .1) a l
+
+    pub open-fresh : FreshNumbers (planBody plan) (openOf plan counts values .counts)
+    open-fresh = subst (λ (r : Left). FreshNumbers (planBody plan) (r .counts)) (sym open-is) (opened-fresh plan counts values open-few (open-long .1))
 
     pub open-count-stays : (i : ℕ) → isCount (planBody plan) i ≡ false → getD (openOf plan counts values .counts) i 0 ≡ getD counts i 0
-    open-count-stays i e = ap (λ (v : List ℕ). getD v i 0) open-counts ∙ replaced-not (isCount (planBody plan)) (λ i. 0) counts i e
+    open-count-stays i e = ap (λ (v : List ℕ). getD v i 0) open-counts ∙ replaced-not (isCount (planBody plan)) (openCount (planBody plan)) counts i e
 
     -- values
 
@@ -156,8 +164,37 @@ module _ (plan counts values : List ℕ) (a : ℕ) where
     pub finish-word : finishOf plan counts values a .word ≡ getD values (firstHeld + a) 0
     finish-word = ap (λ (r : Left). r .word) (finish-finished plan counts values a h)
 
-    pub finish-counts : finishOf plan counts values a .counts ≡ set counts (firstFinished + a) (suc (getD counts (firstFinished + a) 0))
+    pub finish-counts : finishOf plan counts values a .counts ≡ finishedCounts plan counts values a
     finish-counts = ap (λ (r : Left). r .counts) (finish-finished plan counts values a h)
+
+    finish-below : a < itemCount (planBody plan)
+    finish-below = finish-can plan counts values (finish-clear plan counts values a h) a .0 h .in-range
+
+    finish-few : itemCount (planBody plan) ≤ maxItems
+    finish-few = items-few (take planWords plan) (finish-clear plan counts values a h .formed-plan)
+
+    finish-long : countWords ≤ length counts
+    finish-long = long-slices plan counts values .0 (finish-clear plan counts values a h .long) .1
+
+    pub finish-count-size : length (finishOf plan counts values a .counts) ≡ length counts
+    finish-count-size = ap length finish-counts ∙ finished-size plan counts values finish-few finish-long a finish-below
+
+    pub finish-counted : doneBy (finishOf plan counts values a .counts) a ≡ suc (doneBy counts a)
+    finish-counted =
+        ap (λ (x : List ℕ). doneBy x a) finish-counts
+        ∙ (finished-done plan counts values finish-few finish-long a finish-below a finish-below ∙ update-same (doneBy counts) a (suc (doneBy counts a)))
+
+    pub finish-own : unmetBy (finishOf plan counts values a .counts) a
+        ≡ freshCount (system (planBody plan)) (edgeTest (planBody plan)) (doneBy (finishOf plan counts values a .counts)) a
+    finish-own = rw finish-counts (finished-own plan counts values finish-few finish-long a finish-below)
+
+    pub finish-other : (b : ℕ) → b < itemCount (planBody plan) → (b ≡ a → ⊥) → unmetBy (finishOf plan counts values a .counts) b
+        ≡ cond (meets (system (planBody plan)) (edgeTest (planBody plan)) (doneBy counts) a b) (unmetBy counts b - 1) (unmetBy counts b)
+    finish-other b lb other = ap (λ (x : List ℕ). unmetBy x b) finish-counts ∙ finished-other plan counts values finish-few finish-long a finish-below b lb other
+
+    pub finish-count-stays : (i : ℕ) → (i ≡ firstFinished + a → ⊥) → (i < firstUnmet) ⊎ (firstUnmet + itemCount (planBody plan) ≤ i) →
+        getD (finishOf plan counts values a .counts) i 0 ≡ getD counts i 0
+    finish-count-stays i ne k = ap (λ (x : List ℕ). getD x i 0) finish-counts ∙ finished-stay plan counts values finish-few finish-long a finish-below i ne k
 
     finish-values : finishOf plan counts values a .values ≡ replaced (λ x. mem x (system (planBody plan) .writes a)) (λ x. getD values (firstHeld + a) 0) values
     finish-values = ap (λ (r : Left). r .values) (finish-finished plan counts values a h)

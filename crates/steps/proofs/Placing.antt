@@ -2,7 +2,7 @@
 -- places that items access, lie apart.
 use Prim.Native.Nat.{ℕ, zero, suc, _+_, _-_, _*_, _/_, _%_, _≤_, _<_}
 use mathlib.Core.Path.{_≡_, sym, _∙_, ap, subst}
-use mathlib.Core.Bool.{true, false, _||_, or-true}
+use mathlib.Core.Bool.{true, false, _&&_, _||_, or-true}
 use mathlib.Core.Logic.{_⊎_, inl, inr, ⊎-elim}
 use mathlib.Core.List.{List}
 use native.Mathlib.Nat.{mul-zero, mod-lt, div-add-mod', div-lt-iff-lt-mul}
@@ -23,7 +23,7 @@ use Rattle.plan.specs.Layout.{bodyOf}
 use Rattle.plan.specs.Form.{inForm}
 use Rattle.graph.proofs.Small.{plan-fits}
 use Rattle.graph.proofs.Theorems.{laws}
-use Rattle.steps.specs.State.{firstFinished, firstHeld}
+use Rattle.steps.specs.State.{firstFinished, firstUnmet, firstHeld}
 use Rattle.steps.specs.Answers.{isCount, isCopy, isSlot, isHeld}
 
 module _ (B : Body) where
@@ -36,6 +36,15 @@ module _ (B : Body) where
   finished-count a l =
       rw (le-leb firstFinished (firstFinished + a) (omega arith), lt-ltb (firstFinished + a) (firstFinished + itemCount B) (omega arith))
       (or-true (ltb (firstFinished + a) (itemCount B)))
+
+  pub unmet-count : (a : ℕ) → a < itemCount B → isCount B (firstUnmet + a) ≡ true
+  unmet-count a l =
+      rw (
+        le-leb firstUnmet (firstUnmet + a) (omega arith),
+        lt-ltb (firstUnmet + a) (firstUnmet + itemCount B) (omega arith),
+        or-true (leb firstFinished (firstUnmet + a) && ltb (firstUnmet + a) (firstFinished + itemCount B)),
+      )
+      (or-true (ltb (firstUnmet + a) (itemCount B)))
 
   pub held-opened : (a : ℕ) → a < itemCount B → (isCopy B (firstHeld + a) || (isSlot B (firstHeld + a) || isHeld B (firstHeld + a))) ≡ true
   held-opened a l =
@@ -60,14 +69,19 @@ module _ (B : Body) where
 
   -- and nothing else
 
-  pub count-from : (i : ℕ) → isCount B i ≡ true → (i < itemCount B) ⊎ ((a : ℕ) × (a < itemCount B) × (i ≡ firstFinished + a))
-  count-from i h = ⊎-elim (λ l. inl (ltb-true i (itemCount B) l)) (λ t. inr (go (and-true (leb firstFinished i) (ltb i (firstFinished + itemCount B)) t))) (or-cases (ltb i (itemCount B)) _ h)
-    where
-      go : (leb firstFinished i ≡ true) × (ltb i (firstFinished + itemCount B) ≡ true) → (a : ℕ) × (a < itemCount B) × (i ≡ firstFinished + a)
-      go (p, q) =
-          let l = leb-true firstFinished i p in
-          let k = ltb-true i (firstFinished + itemCount B) q in
-          (i - firstFinished, omega arith, omega arith)
+  range-from : (first i : ℕ) → (leb first i && ltb i (first + itemCount B)) ≡ true → (a : ℕ) × (a < itemCount B) × (i ≡ first + a)
+  range-from first i t =
+      let p = and-true (leb first i) (ltb i (first + itemCount B)) t in
+      let l = leb-true first i (p .0) in
+      let k = ltb-true i (first + itemCount B) (p .1) in
+      (i - first, omega arith, omega arith)
+
+  pub count-from : (i : ℕ) (P : Type 0) → (i < itemCount B → P) → ((a : ℕ) → a < itemCount B → i ≡ firstFinished + a → P) →
+      ((a : ℕ) → a < itemCount B → i ≡ firstUnmet + a → P) → isCount B i ≡ true → P
+  count-from i P s f u h =
+      ⊎-elim (λ l. s (ltb-true i (itemCount B) l))
+      (λ t. ⊎-elim (λ e. let r = range-from firstFinished i e in f (r .0) (r .1) (r .2)) (λ e. let r = range-from firstUnmet i e in u (r .0) (r .1) (r .2))
+      (or-cases (leb firstFinished i && ltb i (firstFinished + itemCount B)) _ t)) (or-cases (ltb i (itemCount B)) _ h)
 
   copy-from : (x : ℕ) → x < B .ranks * B .regions → (q : ℕ) × (g : ℕ) × (q < B .ranks) × (g < B .regions) × (x ≡ copy B q g)
   unfolding copy
@@ -98,11 +112,7 @@ module _ (B : Body) where
           t (x - firstSlot) (r .0) (r .1) (r .2) (omega arith) (r .3) (omega arith)
 
       held : isHeld B x ≡ true → P
-      held e =
-          let p = and-true (leb firstHeld x) (ltb x (firstHeld + itemCount B)) e in
-          let l = leb-true firstHeld x (p .0) in
-          let k = ltb-true x (firstHeld + itemCount B) (p .1) in
-          u (x - firstHeld) (omega arith) (omega arith)
+      held e = let r = range-from firstHeld x e in u (r .0) (r .1) (r .2)
 
   -- what holds of the copies and of the slots of sends holds of the places that items access
   pub place-ind : Fits B → (P : ℕ → Type 0) → ((q g : ℕ) → q < B .ranks → g < B .regions → P (copy B q g)) →

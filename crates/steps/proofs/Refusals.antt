@@ -14,13 +14,12 @@ use Rattle.unroll.specs.Machine.{State}
 use Rattle.unroll.specs.Meaning.{StartRule}
 use Rattle.body.specs.Items.{itemCount, itemPasses}
 use Rattle.body.specs.Places.{system}
-use Rattle.edges.specs.Tests.{waitsTest}
 use Rattle.plan.specs.Layout.{planWords}
 use Rattle.graph.specs.Answers.{refusalOf, formedPlan, planBody, isItem}
-use Rattle.steps.specs.State.{countWords, valueWords, stateOf}
-use Rattle.steps.specs.Answers.{Left, isComplete, startTests, finishTests, resultTests, longSlices, formedCounts, unless, opened, openOf, started, startOf, finished, finishOf, shown, resultOf}
+use Rattle.steps.specs.State.{countWords, valueWords, stateOf, unmetBy, FreshNumbers}
+use Rattle.steps.specs.Answers.{Left, isComplete, startTests, finishTests, resultTests, longSlices, formedCounts, formedNumbers, unless, opened, openOf, started, startOf, finished, finishOf, shown, resultOf}
 use Rattle.steps.specs.Calls.{Call, start, finish, result, Lent, lent, call}
-use Rattle.steps.proofs.Accepting.{complete, long-slices, formed-counts, Short, short-slices, Clear, start-rule}
+use Rattle.steps.proofs.Accepting.{complete, long-slices, formed-counts, formedState, Short, short-slices, Clear, start-turn, start-rule}
 
 -- three tests in turn: the number of the first that fails is told, a, b or c; where all hold it is m, which is none of these
 module _ (a b c m : ℕ) (least : 0 < a) (second : a < b) (third : b < c) (own : (m ≡ 0) ⊎ (c < m)) where
@@ -132,14 +131,14 @@ within plan (result g) = ltb g (planBody plan .regions)
 module _ (plan : List ℕ) (s : Lent) where
   -- what the own tests of a call give
   abbrev ownTests : Call → ℕ
-  ownTests (start a) = startTests (planBody plan) (stateOf (s .counts) (s .values)) a
+  ownTests (start a) = startTests (planBody plan) (stateOf (s .counts) (s .values)) (unmetBy (s .counts) a) a
   ownTests (finish a) = finishTests (stateOf (s .counts) (s .values)) a
   ownTests (result g) = resultTests (planBody plan) (stateOf (s .counts) (s .values))
 
   own-beyond : (c : Call) → Own (ownTests c)
   own-beyond (start a) =
       go (ltb (stateOf (s .counts) (s .values) .finished a) (itemPasses (planBody plan) a)) (eqb (stateOf (s .counts) (s .values) .started a) (stateOf (s .counts) (s .values) .finished a))
-      (waitsTest (planBody plan) (stateOf (s .counts) (s .values) .finished) (stateOf (s .counts) (s .values) .started a) a)
+      (eqb (unmetBy (s .counts) a) 0)
     where
       go : (x y z : Bool) → Own (cond x (cond y (cond z 0 16) 15) 14)
       go true true true = inl refl
@@ -161,7 +160,7 @@ module _ (plan : List ℕ) (s : Lent) where
   long = longSlices plan (s .counts) (s .values)
 
   abbrev formed : Bool
-  formed = formedPlan plan && formedCounts plan (s .counts) (s .values)
+  formed = formedPlan plan && formedState plan (s .counts) (s .values)
 
   judged-told : (x y z : Bool) (m : ℕ) (r : Left) → r .refusal ≡ 0 →
       unless plan (s .counts) (s .values) (refusalOf x y z) (unless plan (s .counts) (s .values) m r) .refusal ≡ cond x (cond y (cond z m 13) 12) 11
@@ -181,10 +180,17 @@ module _ (plan : List ℕ) (s : Lent) where
   call-told (result g) = judged-told long formed (within plan (result g)) (ownTests (result g)) (shown plan (s .counts) (s .values) g) refl
 
   clear-long : Clear plan (s .counts) (s .values) → (long ≡ true) × (formed ≡ true)
-  clear-long c = (c .long, and-intro (formedPlan plan) (formedCounts plan (s .counts) (s .values)) (c .formed-plan) (c .formed-counts))
+  clear-long c = (
+    c .long,
+    and-intro (formedPlan plan) (formedState plan (s .counts) (s .values)) (c .formed-plan)
+        (and-intro (formedCounts plan (s .counts) (s .values)) (formedNumbers plan (s .counts) (s .values)) (c .formed-counts) (c .formed-numbers)),
+  )
 
   long-clear : long ≡ true → formed ≡ true → Clear plan (s .counts) (s .values)
-  long-clear l f = let k = and-true (formedPlan plan) (formedCounts plan (s .counts) (s .values)) f in record { long = l; formed-plan = k .0; formed-counts = k .1 }
+  long-clear l f =
+      let k = and-true (formedPlan plan) (formedState plan (s .counts) (s .values)) f in
+      let q = and-true (formedCounts plan (s .counts) (s .values)) (formedNumbers plan (s .counts) (s .values)) (k .1) in
+      record { long = l; formed-plan = k .0; formed-counts = q .0; formed-numbers = q .1 }
 
   module _ (c : Call) where
     pub call-11 : (call plan s c .refusal ≡ 11) ↔ Short plan (s .counts) (s .values)
@@ -215,9 +221,6 @@ module _ (plan : List ℕ) (s : Lent) where
           λ h. let q = clear-long (h .0) in call-told c ∙ k .1 (q .0, q .1, h .1, h .2),
         )
 
-    clear-own : Clear plan (s .counts) (s .values) → within plan c ≡ true → ownTests c ≡ 0 → call plan s c .refusal ≡ 0
-    clear-own q l e = let h = clear-long q in call-told c ∙ rw (h .0, h .1, l, e)
-
 -- the numbers of a start, a finish and a result
 
 module _ (plan counts values : List ℕ) where
@@ -232,7 +235,7 @@ module _ (plan counts values : List ℕ) where
     idle = eqb (now .started a) (now .finished a)
 
     abbrev met : Bool
-    met = waitsTest (planBody plan) (now .finished) (now .started a) a
+    met = eqb (unmetBy counts a) 0
 
     pub start-14 : (startOf plan counts values a .refusal ≡ 14) ↔ (Clear plan counts values × (a < itemCount (planBody plan)) × (now .finished a ≡ itemPasses (planBody plan) a))
     start-14 =
@@ -259,10 +262,11 @@ module _ (plan counts values : List ℕ) where
               k .1 (h .0, lt-ltb a (itemCount (planBody plan)) (h .1), t .1 (lt-ltb (now .finished a) (itemPasses (planBody plan) a) more, ne-eqb (now .started a) (now .finished a) running)),
         )
 
-    pub start-16 : (startOf plan counts values a .refusal ≡ 16)
+    -- by the stored number
+    pub start-16-number : (startOf plan counts values a .refusal ≡ 16)
         ↔ (Clear plan counts values × (a < itemCount (planBody plan)) × (now .finished a < itemPasses (planBody plan) a) × (now .started a ≡ now .finished a)
-        × (StartRule (system (planBody plan)) now a → ⊥))
-    start-16 =
+        × (unmetBy counts a ≡ 0 → ⊥))
+    start-16-number =
         let k = call-own plan (lent counts values) (start a) 16 (omega arith) in
         let t = third-fails 14 15 16 0 (omega arith) (omega arith) (omega arith) (inl refl) left idle met in (
           λ e.
@@ -272,14 +276,27 @@ module _ (plan counts values : List ℕ) where
                 ltb-true a (itemCount (planBody plan)) (h .1),
                 ltb-true (now .finished a) (itemPasses (planBody plan) a) (q .0),
                 eqb-true (now .started a) (now .finished a) (q .1),
-                λ r. omega (arith, e, start-rule plan counts values (h .0) a .1 r),
+                eqb-false (unmetBy counts a) 0 (q .2),
               ),
           λ h.
               let i = lt-ltb a (itemCount (planBody plan)) (h .1) in
               let l = lt-ltb (now .finished a) (itemPasses (planBody plan) a) (h .2) in
               let d = eq-eqb (now .started a) (now .finished a) (h .3) in
-              k .1 (h .0, i, t .1 (l, d, false-of met (λ w. h .4 (start-rule plan counts values (h .0) a .0 (clear-own plan (lent counts values) (start a) (h .0) i (rw (l, d, w))))))),
+              k .1 (h .0, i, t .1 (l, d, ne-eqb (unmetBy counts a) 0 (h .4))),
         )
+
+    -- where the numbers are fresh, by the papers' words
+    pub start-16 : FreshNumbers (planBody plan) counts → (startOf plan counts values a .refusal ≡ 16)
+        ↔ (Clear plan counts values × (a < itemCount (planBody plan)) × (now .finished a < itemPasses (planBody plan) a) × (now .started a ≡ now .finished a)
+        × (StartRule (system (planBody plan)) now a → ⊥))
+    start-16 f = (
+      λ e.
+          let h = start-16-number .0 e in
+          (h .0, h .1, h .2, h .3, λ r. omega (arith, e, start-rule plan counts values (h .0) f a .1 r)),
+      λ h.
+          start-16-number .1 (h .0, h .1, h .2, h .3,
+          λ z. h .4 (start-rule plan counts values (h .0) f a .0 (start-turn plan counts values (h .0) a .1 (h .1, (h .2, h .3, z))))),
+    )
 
     pub finish-17 : (finishOf plan counts values a .refusal ≡ 17) ↔ (Clear plan counts values × (a < itemCount (planBody plan)) × (now .started a ≡ now .finished a))
     finish-17 =

@@ -3,18 +3,19 @@
 use Prim.Native.Nat.{ℕ, suc, _+_, _*_, _≤_, _<_}
 use mathlib.Core.Path.{_≡_, refl, sym, _∙_, ap, ap₂, subst}
 use mathlib.Core.Bool.{Bool, true, false, cond, _&&_}
+use mathlib.Core.Logic.{inl}
 use mathlib.Core.List.{List, [], _∷_, _++_}
 use native.Mathlib.Decide.{ℕ-discrete}
 use native.Mathlib.Omega.{arith}
-use borrow.Author.Tests.{ltb-true, eq-eqb, lt-ltb, le-leb}
+use borrow.Author.Tests.{eqb-true, ltb-true, eq-eqb, lt-ltb, le-leb}
 use lib.Dec.{eqb, ltb, leb}
 use lib.ListN.{length, getD, set, take, length-append}
 use lib.Seq.{take-all, length-take-le, getD-set-other}
 use Rattle.finite.specs.Below.{allBelow, sumBelow}
 use Rattle.finite.specs.Lists.{mem}
 use Rattle.finite.specs.Update.{update, replaced}
-use Rattle.finite.proofs.Below.{all-ext, sum-le, sum-const, sum-suc}
-use Rattle.finite.proofs.Tests.{and-true, and-intro, and-parts, eqb-from, not-both}
+use Rattle.finite.proofs.Below.{sum-le, sum-const, sum-suc, sum-ext}
+use Rattle.finite.proofs.Tests.{and-true, and-intro, not-both}
 use Rattle.finite.proofs.Update.{set-at, update-same, update-other}
 use Rattle.unroll.specs.Sequential.{wordOn}
 use Rattle.unroll.specs.Machine.{State, finishState}
@@ -22,22 +23,21 @@ use Rattle.body.specs.Body.{Body}
 use Rattle.body.specs.Items.{itemCount, itemAt, itemPasses}
 use Rattle.body.proofs.Wrapped.{passes-most}
 use Rattle.body.specs.Places.{system, resultOf as regionResult}
-use Rattle.edges.specs.Tests.{edgeTest, metTest, waitsTest}
-use Rattle.edges.specs.Rule.{WaitsMet}
-use Rattle.edges.proofs.Decided.{waits-decided, rule-waits, waits-rule}
+use Rattle.edges.specs.Tests.{edgeTest}
+use Rattle.waits.specs.Stored.{finishedNumbers}
 use Rattle.plan.specs.Sizes.{maxItems}
 use Rattle.plan.specs.Layout.{planWords, bodyOf}
 use Rattle.plan.specs.Form.{inForm}
 use Rattle.graph.specs.Answers.{refusalOf, longPlan, formedPlan, planBody}
-use Rattle.graph.proofs.Small.{plan-fits, plan-small}
-use Rattle.steps.specs.State.{countWords, valueWords, firstFinished, firstHeld, stateOf}
-use Rattle.steps.specs.Answers.{Left, countOk, formedCounts, startTests, finishTests, resultTests, unless, opened, started, startOf, finished, finishOf, resultOf}
+use Rattle.steps.specs.State.{countWords, valueWords, firstFinished, firstUnmet, firstHeld, stateOf, doneBy, unmetBy, FreshNumbers}
+use Rattle.steps.specs.Answers.{Left, countOk, formedCounts, startTests, finishTests, resultTests, unless, opened, started, startOf, finished, finishedCounts, finishOf, resultOf}
 use Rattle.steps.specs.Calls.{Call, start, finish, result, isStep, Lent, lentBy, call, play, accepted}
 use Rattle.steps.specs.Running.{Accepts, Next, Taken}
-use Rattle.steps.specs.Turns.{doneBy, isReady, Idle, Going, Over}
-use Rattle.steps.proofs.Accepting.{Clear, formed-counts, start-rule, start-can, start-started, finish-can, finish-finished}
-use Rattle.steps.proofs.Simulating.{Tied, opened-started, opened-finished, opened-tied, tied-clear, start-left, finish-left}
+use Rattle.steps.specs.Turns.{isReady, Idle, Going, Over}
+use Rattle.steps.proofs.Accepting.{Clear, formed-counts, start-turn, start-can, start-started, finish-can, finish-finished}
+use Rattle.steps.proofs.Simulating.{Tied, opened-tied, tied-clear, start-left, finish-left}
 use Rattle.steps.proofs.Placing.{items-few}
+use Rattle.steps.proofs.Numbered.{opened-started, opened-finished, finished-stay, finished-done}
 
 -- lists of steps that come next
 
@@ -60,44 +60,31 @@ module _ (plan : List ℕ) where
   taken-accepted s (finish a ∷ l) (n, t) = rw (eq-eqb (call plan s (finish a) .refusal) 0 (n .0)) (omega (arith, taken-accepted (lentBy (call plan s (finish a))) l t))
   taken-accepted s (result g ∷ l) (n, t) = absurd n
 
--- an item that has no edge from a is ready after a pass of a exactly if it was before
-module _ (B : Body) (C D : List ℕ) (a : ℕ) (done : (b : ℕ) → doneBy D b ≡ update (doneBy C) a (suc (doneBy C a)) b) where
-  done-other : (b : ℕ) → (b ≡ a → ⊥) → doneBy D b ≡ doneBy C b
-  done-other b n = done b ∙ update-other (doneBy C) a (suc (doneBy C a)) b n
-
-  pub ready-stays : (b : ℕ) → (b ≡ a → ⊥) → edgeTest B a b ≡ false → isReady B D b ≡ isReady B C b
-  unfolding isReady waitsTest metTest
-  ready-stays b n e =
-      rw (done-other b n)
-      (and-parts {a = ltb (doneBy C b) (itemPasses B b)} refl
-      (all-ext (itemCount B) (λ c. metTest B (doneBy D) (doneBy C b) c b) (λ c. metTest B (doneBy C) (doneBy C b) c b) (λ c l. met c)))
-    where
-      met : (c : ℕ) → metTest B (doneBy D) (doneBy C b) c b ≡ metTest B (doneBy C) (doneBy C b) c b
-      met c =
-          elim (ℕ-discrete c a) [
-            | yes h ↦ (let k : edgeTest B c b ≡ false = ap (λ (x : ℕ). edgeTest B x b) h ∙ e in rw k)
-            | no h ↦ rw (done-other c h)
-          ]
-
-  pub done-sum : a < itemCount B → sumBelow (itemCount B) (doneBy D) ≡ suc (sumBelow (itemCount B) (doneBy C))
-  done-sum l = sum-suc (itemCount B) (doneBy C) (doneBy D) a l (done a ∙ update-same (doneBy C) a (suc (doneBy C a))) done-other
+-- after one pass more of item a
+done-sum : (n : ℕ) (C D : List ℕ) (a : ℕ) → a < n → ((b : ℕ) → b < n → doneBy D b ≡ update (doneBy C) a (suc (doneBy C a)) b) →
+    sumBelow n (doneBy D) ≡ suc (sumBelow n (doneBy C))
+done-sum n C D a l done =
+    sum-ext n (doneBy D) (update (doneBy C) a (suc (doneBy C a))) done
+    ∙ sum-suc n (doneBy C) (update (doneBy C) a (suc (doneBy C a))) a l (update-same (doneBy C) a (suc (doneBy C a))) (update-other (doneBy C) a (suc (doneBy C a)))
 
 -- a lent state in form
 module _ (plan : List ℕ) (s : Lent) where
-  here-tied : countWords ≤ length (s .counts) → valueWords ≤ length (s .values) → formedCounts plan (s .counts) (s .values) ≡ true → Tied plan s (stateOf (s .counts) (s .values))
-  here-tied c v f =
+  here-tied : countWords ≤ length (s .counts) → valueWords ≤ length (s .values) → formedCounts plan (s .counts) (s .values) ≡ true →
+      FreshNumbers (planBody plan) (s .counts) → Tied plan s (stateOf (s .counts) (s .values))
+  here-tied c v f n =
       record {
         long-counts = c;
         long-values = v;
         formed = f;
+        fresh = n;
         agree = record { started = λ a l. refl; finished = λ a l. refl; held = λ a l. refl; places = λ a x l h. refl };
       }
 
   idle-tied : Idle plan s → Tied plan s (stateOf (s .counts) (s .values))
-  idle-tied I = here-tied (I .long-counts) (I .long-values) (I .formed)
+  idle-tied I = here-tied (I .long-counts) (I .long-values) (I .formed) (I .fresh)
 
   tied-idle : (σ : State) → Tied plan s σ → ((a : ℕ) → a < itemCount (planBody plan) → getD (s .counts) a 0 ≡ doneBy (s .counts) a) → Idle plan s
-  tied-idle σ t h = record { long-counts = t .long-counts; long-values = t .long-values; formed = t .formed; idle = h }
+  tied-idle σ t h = record { long-counts = t .long-counts; long-values = t .long-values; formed = t .formed; idle = h; fresh = t .fresh }
 
 module _ (plan : List ℕ) (long : planWords ≤ length plan) (formed : formedPlan plan ≡ true) where
   few : itemCount (planBody plan) ≤ maxItems
@@ -114,22 +101,18 @@ module _ (plan : List ℕ) (long : planWords ≤ length plan) (formed : formedPl
     pub accepted-ready : (a : ℕ) → Accepts plan s (start a) → (a < itemCount (planBody plan)) × (isReady (planBody plan) (s .counts) a ≡ true)
     unfolding isReady
     accepted-ready a h =
-        let r = start-rule plan (s .counts) (s .values) idle-clear a .0 h in (
-          r .in-range,
-          and-intro (ltb (doneBy (s .counts) a) (itemPasses (planBody plan) a)) (waitsTest (planBody plan) (doneBy (s .counts)) (doneBy (s .counts) a) a)
-              (lt-ltb (doneBy (s .counts) a) (itemPasses (planBody plan) a) (r .left))
-              (waits-decided (planBody plan) (plan-fits (take planWords plan) formed) (plan-small (take planWords plan) formed .regions) (doneBy (s .counts)) a (doneBy (s .counts) a) (r .in-range) .1
-              (subst (WaitsMet (planBody plan) (doneBy (s .counts)) a) (I .idle a (r .in-range)) (rule-waits (planBody plan) (plan-fits (take planWords plan) formed) (stateOf (s .counts) (s .values)) a r))),
+        let r = start-turn plan (s .counts) (s .values) idle-clear a .0 h in (
+          r .0,
+          and-intro (ltb (doneBy (s .counts) a) (itemPasses (planBody plan) a)) (eqb (unmetBy (s .counts) a) 0)
+              (lt-ltb (doneBy (s .counts) a) (itemPasses (planBody plan) a) (r .1 .0)) (eq-eqb (unmetBy (s .counts) a) 0 (r .1 .2)),
         )
 
     pub ready-accepted : (a : ℕ) → a < itemCount (planBody plan) → isReady (planBody plan) (s .counts) a ≡ true → Accepts plan s (start a)
     unfolding isReady
     ready-accepted a l h =
-        let p = and-true (ltb (doneBy (s .counts) a) (itemPasses (planBody plan) a)) (waitsTest (planBody plan) (doneBy (s .counts)) (doneBy (s .counts) a) a) h in
-        let w = waits-decided (planBody plan) (plan-fits (take planWords plan) formed) (plan-small (take planWords plan) formed .regions) (doneBy (s .counts)) a (doneBy (s .counts) a) l .0 (p .1) in
-        let v = subst (WaitsMet (planBody plan) (doneBy (s .counts)) a) (sym (I .idle a l)) w in
-        start-rule plan (s .counts) (s .values) idle-clear a .1
-        (waits-rule (planBody plan) (stateOf (s .counts) (s .values)) a l (ltb-true (doneBy (s .counts) a) (itemPasses (planBody plan) a) (p .0)) (I .idle a l) v)
+        let p = and-true (ltb (doneBy (s .counts) a) (itemPasses (planBody plan) a)) (eqb (unmetBy (s .counts) a) 0) h in
+        start-turn plan (s .counts) (s .values) idle-clear a .1
+        (l, (ltb-true (doneBy (s .counts) a) (itemPasses (planBody plan) a) (p .0), I .idle a l, eqb-true (unmetBy (s .counts) a) 0 (p .1)))
 
     -- the finished passes of all items
     pub done-most : sumBelow (itemCount (planBody plan)) (doneBy (s .counts)) ≤ itemCount (planBody plan) * planBody plan .passes
@@ -158,8 +141,8 @@ module _ (plan : List ℕ) (long : planWords ≤ length plan) (formed : formedPl
 
       begun-tied : Tied plan begun (stateOf (begun .counts) (begun .values))
       begun-tied =
-          let t = start-left plan long formed s (stateOf (s .counts) (s .values)) (idle-tied plan s I) a (start-can plan (s .counts) (s .values) idle-clear a .0 (ready-accepted a la ready)) in
-          here-tied plan begun (t .long-counts) (t .long-values) (t .formed)
+          let t = start-left plan long formed s (stateOf (s .counts) (s .values)) (idle-tied plan s I) a (start-can plan (s .counts) (s .values) idle-clear (I .fresh) a .0 (ready-accepted a la ready)) in
+          here-tied plan begun (t .long-counts) (t .long-values) (t .formed) (t .fresh)
 
       begun-done : (b : ℕ) → doneBy (begun .counts) b ≡ doneBy (s .counts) b
       begun-done b = getD-set-other (s .counts) a (firstFinished + b) (suc (getD (s .counts) a 0)) 0 (λ e. omega (arith, la, few))
@@ -192,16 +175,15 @@ module _ (plan : List ℕ) (long : planWords ≤ length plan) (formed : formedPl
       ended-tied : Tied plan ended (finishState (system (planBody plan)) (stateOf (begun .counts) (begun .values)) a)
       ended-tied = finish-left plan long formed begun (stateOf (begun .counts) (begun .values)) begun-tied a (finish-can plan (begun .counts) (begun .values) begun-clear a .0 begun-running)
 
-      -- a has finished one pass more, and nothing else is counted
-      pub ended-done : (b : ℕ) → doneBy (ended .counts) b ≡ update (doneBy (s .counts)) a (suc (doneBy (s .counts) a)) b
+      -- a has finished one pass more, and no other is counted
+      pub ended-done : (b : ℕ) → b < itemCount (planBody plan) → doneBy (ended .counts) b ≡ update (doneBy (s .counts)) a (suc (doneBy (s .counts) a)) b
       unfolding update
-      ended-done b =
-          set-at (begun .counts) (firstFinished + a) (firstFinished + b) (suc (doneBy (begun .counts) a)) 0 (omega (arith, la, few, begun-tied .long-counts))
-          ∙ (ap (λ (t : Bool). cond t (suc (doneBy (begun .counts) a)) (doneBy (begun .counts) b)) (eqb-from firstFinished b a)
-          ∙ ap₂ (λ x y. cond (eqb b a) x y) (ap suc (begun-done a)) (begun-done b))
+      ended-done b l =
+          finished-done plan (begun .counts) (begun .values) few (begun-tied .long-counts) a la b l
+          ∙ ap₂ (λ x y. cond (eqb b a) x y) (ap suc (begun-done a)) (begun-done b)
 
       ended-started : (b : ℕ) → b < itemCount (planBody plan) → getD (ended .counts) b 0 ≡ getD (begun .counts) b 0
-      ended-started b l = getD-set-other (begun .counts) (firstFinished + a) b (suc (doneBy (begun .counts) a)) 0 (λ e. omega (arith, l, few))
+      ended-started b l = finished-stay plan (begun .counts) (begun .values) few (begun-tied .long-counts) a la b (λ e. omega (arith, l, few)) (inl (omega (arith, l, few)))
 
       pub ended-idle : Idle plan ended
       ended-idle = tied-idle plan ended _ ended-tied same
@@ -210,8 +192,8 @@ module _ (plan : List ℕ) (long : planWords ≤ length plan) (formed : formedPl
           same b l =
               elim (ℕ-discrete b a) [
                 | yes e ↦ subst (λ (x : ℕ). getD (ended .counts) x 0 ≡ doneBy (ended .counts) x) (sym e)
-                    (ended-started a la ∙ (begun-own ∙ sym (ended-done a ∙ update-same (doneBy (s .counts)) a (suc (doneBy (s .counts) a)))))
-                | no n ↦ ended-started b l ∙ (begun-other b n l ∙ sym (ended-done b ∙ update-other (doneBy (s .counts)) a (suc (doneBy (s .counts) a)) b n))
+                    (ended-started a la ∙ (begun-own ∙ sym (ended-done a la ∙ update-same (doneBy (s .counts)) a (suc (doneBy (s .counts) a)))))
+                | no n ↦ ended-started b l ∙ (begun-other b n l ∙ sym (ended-done b l ∙ update-other (doneBy (s .counts)) a (suc (doneBy (s .counts) a)) b n))
               ]
 
   pub going-most : (s₀ s : Lent) (steps : ℕ) → Going plan s₀ s steps → steps ≤ 2 * (itemCount (planBody plan) * planBody plan .passes)
@@ -240,7 +222,7 @@ module _ (plan : List ℕ) (long : planWords ≤ length plan) (formed : formedPl
             ∙ (ap (λ (x : Lent). lentBy (call plan x (finish a))) begun-reached ∙ sym (play-snoc plan s₀ (G .calls ++ (start a ∷ [])) (finish a)));
         counted = omega (arith, G .counted, length-append (G .calls) (start a ∷ []), length-append (G .calls ++ (start a ∷ [])) (finish a ∷ []));
         idle = ended-idle s (G .idle) a la ready lowest;
-        sum = omega (arith, G .sum, done-sum (planBody plan) (s .counts) (ended s (G .idle) a la ready lowest .counts) a (ended-done s (G .idle) a la ready lowest) la);
+        sum = omega (arith, G .sum, done-sum (itemCount (planBody plan)) (s .counts) (ended s (G .idle) a la ready lowest .counts) a la (ended-done s (G .idle) a la ready lowest));
       }
     where
       begun-reached : begun s (G .idle) a la ready lowest ≡ play plan s₀ (G .calls ++ (start a ∷ []))
@@ -251,7 +233,7 @@ module _ (plan : List ℕ) (long : planWords ≤ length plan) (formed : formedPl
   pub opened-idle : (counts values : List ℕ) → countWords ≤ length counts → valueWords ≤ length values → Idle plan (lentBy (opened plan counts values))
   opened-idle counts values c v =
       tied-idle plan (lentBy (opened plan counts values)) _ (opened-tied plan formed counts values c v)
-      (λ a l. opened-started plan formed counts values c v a l ∙ sym (opened-finished plan formed counts values c v a l))
+      (λ a l. opened-started plan counts values few c a l ∙ sym (opened-finished plan counts values few c a l))
 
 -- a plan cut to its words gets the same answers: they depend on its body, and on whether it is long enough and in form
 module _ (s : Lent) (long formed : Bool) (B : Body) where
@@ -262,13 +244,13 @@ module _ (s : Lent) (long formed : Bool) (B : Body) where
   unfolding state
   judge within tests made =
       unless [] (s .counts) (s .values)
-      (refusalOf (long && (leb countWords (length (s .counts)) && leb valueWords (length (s .values)))) (formed && allBelow (itemCount B) (λ a. countOk (itemPasses B a) state a)) within)
+      (refusalOf (long && (leb countWords (length (s .counts)) && leb valueWords (length (s .values)))) (formed && (allBelow (itemCount B) (λ a. countOk (itemPasses B a) state a) && allBelow (itemCount B) (λ a. leb (unmetBy (s .counts) a) (itemCount B)))) within)
       (unless [] (s .counts) (s .values) tests made)
 
   answerBy : Call → Left
   unfolding state judge
   answerBy (start a) =
-      judge (ltb a (itemCount B)) (startTests B state a)
+      judge (ltb a (itemCount B)) (startTests B state (unmetBy (s .counts) a) a)
       (record {
         refusal = 0;
         word = wordOn (system B) a (state .places);
@@ -280,13 +262,13 @@ module _ (s : Lent) (long formed : Bool) (B : Body) where
       (record {
         refusal = 0;
         word = state .held a;
-        counts = set (s .counts) (firstFinished + a) (suc (state .finished a));
+        counts = set (finishedNumbers (system B) (edgeTest B) firstUnmet (doneBy (s .counts)) a (s .counts)) (firstFinished + a) (suc (doneBy (s .counts) a));
         values = replaced (λ x. mem x (system B .writes a)) (λ x. state .held a) (s .values);
       })
   answerBy (result g) = judge (ltb g (B .regions)) (resultTests B state) (record { refusal = 0; word = regionResult B state g; counts = s .counts; values = s .values })
 
 answered-by : (plan : List ℕ) (s : Lent) (c : Call) → call plan s c ≡ answerBy s (longPlan plan) (inForm (take planWords plan)) (bodyOf (take planWords plan)) c
-unfolding startOf finishOf resultOf answerBy judge state
+unfolding startOf finishOf finishedCounts resultOf answerBy judge state
 answered-by plan s (start a) = refl
 answered-by plan s (finish a) = refl
 answered-by plan s (result g) = refl

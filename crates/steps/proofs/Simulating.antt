@@ -22,15 +22,18 @@ use Rattle.unroll.proofs.Local.{local}
 use Rattle.unroll.proofs.Runs.{can-accepts, cannot-refuses, can-steps, can-counts, reply-some, reply-none}
 use Rattle.body.specs.Items.{itemCount, itemPasses}
 use Rattle.body.specs.Places.{initial, system}
+use Rattle.edges.specs.Tests.{edgeTest}
+use Rattle.waits.proofs.Unmet.{count-most}
 use Rattle.plan.specs.Sizes.{maxItems}
 use Rattle.plan.specs.Layout.{planWords}
 use Rattle.graph.specs.Answers.{formedPlan, planBody}
 use Rattle.graph.proofs.Small.{plan-fits}
-use Rattle.steps.specs.State.{countWords, valueWords, firstFinished, firstHeld, stateOf}
-use Rattle.steps.specs.Answers.{Left, isCount, isCopy, isSlot, isHeld, formedCounts, opened, wordNow, started, finished}
+use Rattle.steps.specs.State.{countWords, valueWords, firstFinished, firstHeld, stateOf, doneBy, FreshNumbers}
+use Rattle.steps.specs.Answers.{Left, isCount, openCount, isCopy, isSlot, isHeld, formedCounts, opened, wordNow, started, finished}
 use Rattle.steps.specs.Calls.{Call, start, finish, result, Lent, lentBy, call, isAccepted}
-use Rattle.steps.proofs.Accepting.{CountFormed, Clear, long-slices, formed-counts, start-can, start-started, finish-can, finish-finished, every-unchanged, result-shown}
-use Rattle.steps.proofs.Placing.{started-count, finished-count, held-opened, place-opened, held-opening, items-few, place-below, beyond-unwritten}
+use Rattle.steps.proofs.Accepting.{CountFormed, Clear, long-slices, formed-counts, formed-numbers, start-can, start-started, finish-can, finish-finished, every-unchanged, result-shown}
+use Rattle.steps.proofs.Placing.{held-opened, place-opened, held-opening, items-few, place-below, beyond-unwritten}
+use Rattle.steps.proofs.Numbered.{opened-started, opened-finished, opened-fresh, started-fresh, finished-size, finished-stay, finished-done, finished-fresh}
 
 pub agree-trans : (S : System) (s t u : State) → Agree S s t → Agree S t u → Agree S s u
 agree-trans S s t u p q =
@@ -46,7 +49,14 @@ pub record Tied (plan : List ℕ) (s : Lent) (σ : State) : Type 0 where
   pub long-counts : countWords ≤ length (s .counts)
   pub long-values : valueWords ≤ length (s .values)
   pub formed : formedCounts plan (s .counts) (s .values) ≡ true
+  -- each number is a fresh count
+  pub fresh : FreshNumbers (planBody plan) (s .counts)
   pub agree : Agree (system (planBody plan)) (stateOf (s .counts) (s .values)) σ
+
+-- an item that runs has the pass
+formed-running : (passes : ℕ → ℕ) (s : State) (a : ℕ) → s .started a ≡ suc (s .finished a) → CountFormed (passes a) s a → s .finished a < passes a
+formed-running passes s a r (l, inl e) = absurd (omega arith)
+formed-running passes s a r (l, inr (e, k)) = k
 
 -- counts in form stay so
 module _ (passes : ℕ → ℕ) (s t : State) where
@@ -80,12 +90,6 @@ module _ (plan : List ℕ) (formed : formedPlan plan ≡ true) (counts values : 
 
   -- opening
 
-  pub opened-started : (a : ℕ) → a < itemCount (planBody plan) → stateOf (opened plan counts values .counts) (opened plan counts values .values) .started a ≡ 0
-  opened-started a l = replaced-at (isCount (planBody plan)) (λ i. 0) counts a (omega (arith, few)) ∙ rw (started-count (planBody plan) a l)
-
-  pub opened-finished : (a : ℕ) → a < itemCount (planBody plan) → stateOf (opened plan counts values .counts) (opened plan counts values .values) .finished a ≡ 0
-  opened-finished a l = replaced-at (isCount (planBody plan)) (λ i. 0) counts (firstFinished + a) (omega (arith, few)) ∙ rw (finished-count (planBody plan) a l)
-
   pub opened-value : (x : ℕ) → x < length values → (isCopy (planBody plan) x || (isSlot (planBody plan) x || isHeld (planBody plan) x)) ≡ true →
       getD (opened plan counts values .values) x 0 ≡ initial (planBody plan) x
   opened-value x l e =
@@ -95,13 +99,15 @@ module _ (plan : List ℕ) (formed : formedPlan plan ≡ true) (counts values : 
   unfolding opening
   opened-tied =
       record {
-        long-counts = omega (arith, length-replaced (isCount (planBody plan)) (λ i. 0) counts);
+        long-counts = omega (arith, length-replaced (isCount (planBody plan)) (openCount (planBody plan)) counts);
         long-values = omega (arith, length-replaced (λ x. isCopy (planBody plan) x || (isSlot (planBody plan) x || isHeld (planBody plan) x)) (initial (planBody plan)) values);
         formed = formed-counts plan (opened plan counts values .counts) (opened plan counts values .values) .1
-            (λ a l. (omega (arith, opened-finished a l), inl (opened-started a l ∙ sym (opened-finished a l))));
+            (λ a l. (omega (arith, opened-finished plan counts values few long-counts a l),
+            inl (opened-started plan counts values few long-counts a l ∙ sym (opened-finished plan counts values few long-counts a l))));
+        fresh = opened-fresh plan counts values few long-counts;
         agree = record {
-          started = opened-started;
-          finished = opened-finished;
+          started = opened-started plan counts values few long-counts;
+          finished = opened-finished plan counts values few long-counts;
           held = λ a l. opened-value (firstHeld + a) (omega (arith, few)) (held-opened (planBody plan) a l) ∙ held-opening (planBody plan) (plan-fits (take planWords plan) formed) a;
           places = λ a x l h. opened-value x (omega (arith, place-below (take planWords plan) formed a x l h)) (place-opened (planBody plan) (plan-fits (take planWords plan) formed) a x l h);
         };
@@ -135,10 +141,8 @@ module _ (plan : List ℕ) (formed : formedPlan plan ≡ true) (counts values : 
     unfolding finishState update put
     finish-agree =
         record {
-          started = λ b l. getD-set-other counts (firstFinished + a) b (suc (getD counts (firstFinished + a) 0)) 0 (λ e. omega (arith, few));
-          finished = λ b l.
-              set-at counts (firstFinished + a) (firstFinished + b) (suc (getD counts (firstFinished + a) 0)) 0 (omega (arith, few))
-              ∙ ap (λ (t : Bool). cond t (suc (getD counts (firstFinished + a) 0)) (getD counts (firstFinished + b) 0)) (eqb-from firstFinished b a);
+          started = λ b l. finished-stay plan counts values few long-counts a la b (λ e. omega (arith, few)) (inl (omega (arith, few)));
+          finished = finished-done plan counts values few long-counts a la;
           held = λ b l.
               finish-value (firstHeld + b) (omega (arith, few))
               ∙ rw (beyond-unwritten (take planWords plan) formed a (firstHeld + b) la (omega arith));
@@ -155,6 +159,7 @@ module _ (plan : List ℕ) where
         long-counts = t .long-counts;
         long-values = t .long-values;
         formed = t .formed;
+        fresh = t .fresh;
         agree = agree-trans (system (planBody plan)) (stateOf (s .counts) (s .values)) σ τ (t .agree) g;
       }
 
@@ -179,6 +184,8 @@ module _ (plan : List ℕ) where
           long = long-slices plan (s .counts) (s .values) .1 (long, t .long-counts, t .long-values);
           formed-plan = formed;
           formed-counts = t .formed;
+          formed-numbers = formed-numbers plan (s .counts) (s .values) .1
+              (λ a l. omega (arith, t .fresh a l, count-most (system (planBody plan)) (edgeTest (planBody plan)) (doneBy (s .counts)) a l));
         }
 
     pub start-left : (s : Lent) (σ : State) → Tied plan s σ → (a : ℕ) → CanStart (system (planBody plan)) (stateOf (s .counts) (s .values)) a →
@@ -192,6 +199,7 @@ module _ (plan : List ℕ) where
           formed = formed-counts plan (started plan (s .counts) (s .values) a .counts) (started plan (s .counts) (s .values) a .values) .1
               (λ b l. formed-start (itemPasses (planBody plan)) (stateOf (s .counts) (s .values)) (stateOf (started plan (s .counts) (s .values) a .counts) (started plan (s .counts) (s .values) a .values))
               a (k .left) (k .idle) b (g .started b l) (g .finished b l) (formed-counts plan (s .counts) (s .values) .0 (t .formed) b l));
+          fresh = started-fresh plan (s .counts) (s .values) (items-few (take planWords plan) formed) (t .long-counts) a (k .in-range) (t .fresh);
           agree = g;
         }
 
@@ -201,11 +209,13 @@ module _ (plan : List ℕ) where
     finish-left s σ t a k =
         let g = finish-agree plan formed (s .counts) (s .values) (t .long-counts) (t .long-values) a (k .in-range) in
         record {
-          long-counts = omega (arith, t .long-counts, length-set (s .counts) (firstFinished + a) (suc (getD (s .counts) (firstFinished + a) 0)));
+          long-counts = omega (arith, t .long-counts, finished-size plan (s .counts) (s .values) (items-few (take planWords plan) formed) (t .long-counts) a (k .in-range));
           long-values = omega (arith, t .long-values, length-replaced (λ x. mem x (system (planBody plan) .writes a)) (λ x. getD (s .values) (firstHeld + a) 0) (s .values));
           formed = formed-counts plan (finished plan (s .counts) (s .values) a .counts) (finished plan (s .counts) (s .values) a .values) .1
               (λ b l. formed-finish (itemPasses (planBody plan)) (stateOf (s .counts) (s .values)) (stateOf (finished plan (s .counts) (s .values) a .counts) (finished plan (s .counts) (s .values) a .values))
               a (k .running) b (g .finished b l) (g .started b l) (formed-counts plan (s .counts) (s .values) .0 (t .formed) b l));
+          fresh = finished-fresh plan (s .counts) (s .values) (items-few (take planWords plan) formed) (t .long-counts) a (k .in-range)
+              (formed-running (itemPasses (planBody plan)) (stateOf (s .counts) (s .values)) a (k .running) (formed-counts plan (s .counts) (s .values) .0 (t .formed) a (k .in-range))) (t .fresh);
           agree = g;
         }
 
@@ -260,7 +270,7 @@ module _ (plan : List ℕ) (can : Decides (system (planBody plan))) where
   module _ (long : planWords ≤ length plan) (formed : formedPlan plan ≡ true) where
     pub start-follows : (s : Lent) (σ : State) (a : ℕ) → Tied plan s σ → Follows s σ (start a) (startStep a)
     start-follows s σ a t =
-        let can-start = start-can plan (s .counts) (s .values) (tied-clear plan long formed s σ t) a in
+        let can-start = start-can plan (s .counts) (s .values) (tied-clear plan long formed s σ t) (t .fresh) a in
         follows s σ (start a) (startStep a) t
         (record {
           accepted = can-start;

@@ -3,3 +3,4 @@ pub mod Answers
 pub mod Calls
 pub mod Running
 pub mod Turns
+pub mod Ready
