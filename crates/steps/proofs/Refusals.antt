@@ -80,7 +80,7 @@ tests-18 true = (λ e. absurd (omega arith), λ e. absurd (not-both refl e))
 tests-18 false = (λ e. refl, λ e. refl)
 
 module _ (plan counts values : List ℕ) where
-  is-short : longSlices plan counts values ≡ false → Short plan counts values
+  pub is-short : longSlices plan counts values ≡ false → Short plan counts values
   is-short e =
       elim (decLt (length plan) planWords) [
         | yes p ↦ inl p

@@ -32,6 +32,7 @@ use Rattle.graph.proofs.Small.{plan-fits}
 use Rattle.steps.specs.State.{countWords, valueWords, firstFinished, stateOf}
 use Rattle.steps.specs.Answers.{Left, longSlices, openOf}
 use Rattle.steps.specs.Calls.{Call, start, finish, result, isStart, isFinish, isStep, Lent, lentBy, play, replies, accepted}
+use Rattle.taskiter.proofs.Freshness.{fresh-all}
 use Rattle.taskiter.specs.Demands.{startsOf, finishesOf, callAfter, AtEnd, InAnyOrder}
 use Rattle.steps.proofs.Accepting.{Clear, long-slices, open-opened, open-accepted, result-shown, result-complete}
 use Rattle.steps.proofs.Simulating.{Tied, opened-tied, tied-clear, start-follows, finish-follows}
@@ -157,6 +158,7 @@ module _ (plan : List ℕ) (long : planWords ≤ length plan) (formed : formedPl
         finishes = λ k m a e z. finishes k a z;
         results = λ k m g e z. results k g z;
         counted = counted l;
+        numbers = fresh-all plan formed (play plan s l .counts) (play plan s l .values) (tied l .fresh);
         replied = replied l;
         goes-on = goes-on l;
         leads-on = leads-on l;

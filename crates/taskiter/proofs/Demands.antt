@@ -11,7 +11,9 @@ use lib.ListN.{length, getD, take, drop, replicate}
 use lib.Seq.{take-at}
 use Rattle.body.specs.Transfers.{transferCount}
 use Rattle.body.specs.Items.{totalSteps}
+use Rattle.body.specs.Places.{system}
 use Rattle.body.proofs.Theorems.{laws as body-laws}
+use Rattle.edges.proofs.Decided.{edge-distance-is}
 use Rattle.plan.specs.Limits.{maxBytes, maxTransfers, maxWord}
 use Rattle.plan.specs.Layout.{planWords, bodyOf}
 use Rattle.kernels.proofs.Mean.{mean-laws}
@@ -30,9 +32,10 @@ use Rattle.steps.specs.State.{countWords, valueWords}
 use Rattle.steps.specs.Answers.{longSlices, openOf}
 use Rattle.steps.specs.Calls.{Call, Lent, lentBy, play}
 use Rattle.steps.proofs.Accepting.{long-slices, Clear, open-short, open-unchanged, open-accepted, start-clear}
-use Rattle.steps.proofs.Accepting.{start-rule, finish-clear, finish-can, result-clear, result-complete, every-short, every-unchanged}
-use Rattle.steps.proofs.Made.{start-word, start-counts, start-values, finish-word, finish-counts, finish-size, finish-written, finish-unwritten}
+use Rattle.steps.proofs.Accepting.{start-turn, start-rule, finish-clear, finish-can, result-clear, result-complete, every-short, every-unchanged}
+use Rattle.steps.proofs.Made.{start-word, start-counts, start-values}
 use Rattle.taskiter.specs.Demands.{FitTold, TextRead, PlanReady, Steps, Demand1, Demand2, stepsOf, AtEnd, InAnyOrder, Opened, Demand3, Demands}
+use Rattle.taskiter.proofs.Freshness.{all-fresh}
 use Rattle.taskiter.proofs.AnyOrder.{in-any-order}
 use Rattle.taskiter.proofs.Unread.{unread}
 use Rattle.taskiter.proofs.Means.{mean-words}
@@ -40,8 +43,9 @@ use Rattle.taskiter.proofs.Kept.{kept, counts-fit}
 use Rattle.taskiter.proofs.Readiness.{ready-long, ready-form, ready-clear, counts-ready, form-ready, clear-ready}
 use Rattle.taskiter.proofs.Writing.{text-given}
 use Rattle.taskiter.proofs.Giving.{items-given, edges-given, total-given}
+use Rattle.taskiter.proofs.Listing.{ready-given}
 use Rattle.taskiter.proofs.Replying.{call-word, word-call, in-words, play-refused, play-given}
-use Rattle.taskiter.proofs.Numbering.{numbers, open-made, result-made, room, held-apart, own-rank}
+use Rattle.taskiter.proofs.Numbering.{numbers, open-made, finish-made, result-made, room, held-apart, own-rank}
 
 -- demand 1
 
@@ -127,9 +131,21 @@ module _ (plan counts values : List ℕ) (words : (i : ℕ) → getD plan i 0 �
           λ h. let k = open-accepted plan counts values .0 h in form-ready plan counts values words (k .0) (k .1),
           λ R. open-accepted plan counts values .1 (ready-long plan counts values R, ready-form plan counts values R),
         );
-        starts = λ a. (
-          λ h. let k = start-clear plan counts values a h in (clear-ready plan counts values words k, start-rule plan counts values k a .0 h),
-          λ h. start-rule plan counts values (ready-clear plan counts values (h .0)) a .1 (h .1),
+        one-edge = λ R a b d e p q. edge-distance-is (system (planBody plan)) a b d p ∙ sym (edge-distance-is (system (planBody plan)) a b e q);
+        starts-stored = λ a. (
+          λ h.
+              let k = start-clear plan counts values a h in
+              let t = start-turn plan counts values k a .0 h in
+              (clear-ready plan counts values words k, record { in-range = t .0; left = t .1 .0; idle = t .1 .1; none-unmet = t .1 .2 }),
+          λ h. start-turn plan counts values (ready-clear plan counts values (h .0)) a .1 (h .1 .in-range, (h .1 .left, h .1 .idle, h .1 .none-unmet)),
+        );
+        starts = λ F a. (
+          λ h.
+              let k = start-clear plan counts values a h in
+              (clear-ready plan counts values words k, start-rule plan counts values k (all-fresh plan (k .formed-plan) counts values F) a .0 h),
+          λ h.
+              let k = ready-clear plan counts values (h .0) in
+              start-rule plan counts values k (all-fresh plan (k .formed-plan) counts values F) a .1 (h .1),
         );
         finishes = λ a. (
           λ h. let k = finish-clear plan counts values a h in (clear-ready plan counts values words k, finish-can plan counts values k a .0 h),
@@ -142,19 +158,12 @@ module _ (plan counts values : List ℕ) (words : (i : ℕ) → getD plan i 0 �
         numbers = numbers plan counts values words;
         opened = open-made plan counts values;
         started = λ a h. record { word = start-word plan counts values a h; counted = start-counts plan counts values a h; held = start-values plan counts values a h };
-        finished = λ a h.
-            record {
-              word = finish-word plan counts values a h;
-              counted = finish-counts plan counts values a h;
-              size = finish-size plan counts values a h;
-              written = finish-written plan counts values a h;
-              unwritten = finish-unwritten plan counts values a h;
-            };
+        finished = finish-made plan counts values;
         shown = result-made plan counts values;
       }
 
 demand-2 : Demand2
-demand-2 = record { items = items-given; edges = edges-given; total = total-given; steps = steps; unread = unread }
+demand-2 = record { items = items-given; edges = edges-given; total = total-given; steps = steps; ready = ready-given; unread = unread }
 
 -- demand 3
 
@@ -172,7 +181,7 @@ opened-order text w behind counts values e long-counts long-values =
       means = λ p t l k. mean-words w (form-parts w (reading-laws .in-form text w e) .0) t l k p;
       total = λ r A. total-ends size (open-accepted (w ++ behind) counts values .0 (o .0)) r A (o .1);
       stays-ready = λ l. let s = play (w ++ behind) (lentBy (openOf (w ++ behind) counts values)) l in
-          counts-ready (w ++ behind) (s .counts) (s .values) (read-ready (s .counts) (s .values) size (o .2 l)) (o .2 l .formed-counts);
+          counts-ready (w ++ behind) (s .counts) (s .values) (read-ready (s .counts) (s .values) size (o .2 l)) (o .2 l .formed-counts) (o .2 l .formed-numbers);
       played = λ before calls answers r counts′ values′ answers′ room P.
           play-given (bodyOf w) (w ++ behind) (lentBy (openOf (w ++ behind) counts values)) (o .1) before calls answers (o .2 before .long) room r counts′ values′ answers′ P;
     }

@@ -18,9 +18,9 @@ use Rattle.steps.specs.Answers.{Left, openOf, resultOf}
 use Rattle.steps.specs.Calls.{Call, start, finish, result, isStep, Lent, lent, lentBy, call, play}
 use Rattle.steps.specs.Running.{Accepts, Next, Taken}
 use Rattle.steps.specs.Turns.{Going, Over}
-use Rattle.steps.proofs.Accepting.{Clear, long-slices, formed-counts, open-accepted, start-rule, finish-can}
+use Rattle.steps.proofs.Accepting.{Clear, long-slices, formed-counts, open-accepted, start-turn, finish-can}
 use Rattle.steps.proofs.Running.{taken-accepted, call-cut, taken-cut, play-cut}
-use Rattle.taskiter.specs.Demands.{finishesOf, AtEnd, InAnyOrder, Complete}
+use Rattle.taskiter.specs.Demands.{finishesOf, AtEnd, InAnyOrder, Complete, AllFresh}
 use Rattle.taskiter.specs.Run.{Run, Ran}
 use Rattle.taskiter.proofs.Exported.{open-cut}
 use Rattle.taskiter.proofs.AnyOrder.{open-order, open-clear}
@@ -68,7 +68,7 @@ taken-only plan s (c ∷ l) (d ∷ k) (n, t) (m, u) p q =
 -- where the loop is complete no step is accepted
 pub complete-over : (plan : List ℕ) (s : Lent) → Clear plan (s .counts) (s .values) → Complete (planBody plan) (stateOf (s .counts) (s .values)) → Over plan s
 complete-over plan s k h (start a) z x =
-    let r = start-rule plan (s .counts) (s .values) k a .0 x in omega (arith, r .left, h a (r .in-range))
+    let r = start-turn plan (s .counts) (s .values) k a .0 x in omega (arith, r .1 .0, h a (r .0))
 complete-over plan s k h (finish a) z x =
     let r = finish-can plan (s .counts) (s .values) k a .0 x in
     ⊎-elim (λ e. omega (arith, e, r .running)) (λ e. omega (arith, e .1, h a (r .in-range))) (formed-counts plan (s .counts) (s .values) .0 (k .formed-counts) a (r .in-range) .1)
@@ -133,6 +133,7 @@ module _ (P C W : List ℕ) (opens : openOf P C W .refusal ≡ 0) where
           counted = G .0 .counted;
           complete = λ a l. ap (λ (x : Lent). getD (x .counts) (firstFinished + a) 0) run-reached ∙ (order .counted a l .1 ∙ at-end a l);
           total = G .0 .counted ∙ (sym (taken-accepted P (lentBy (openOf P C W)) calls run-taken) ∙ order .ends .0 at-end);
+          numbers = subst (λ (x : Lent). AllFresh (planBody P) (x .counts) (x .values)) (sym run-reached) (order .numbers);
           only = λ k t c. taken-only P (lentBy (openOf P C W)) k calls t run-taken (complete-over P (play P (lentBy (openOf P C W)) k) (open-clear P C W opens k) c) run-over;
           results = λ g l.
               subst (λ (x : Lent). (resultOf P (x .counts) (x .values) g .refusal ≡ 0) × (resultOf P (x .counts) (x .values) g .word ≡ loopFinal (planBody P) g)) (sym run-reached)

@@ -1,8 +1,10 @@
+pub mod Freshness
 pub mod AnyOrder
 pub mod Unread
 pub mod Readiness
 pub mod Parts
 pub mod Giving
+pub mod Listing
 pub mod Writing
 pub mod Playing
 pub mod Replying

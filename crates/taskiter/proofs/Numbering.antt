@@ -1,10 +1,11 @@
--- Demand 2: the numbers of refused calls, what an accepted opening or result leaves, and the room
--- that the state has.
-use Prim.Native.Nat.{ℕ, _+_, _*_, _≤_, _<_}
-use mathlib.Core.Path.{_≡_, refl, _∙_, ap}
-use mathlib.Core.Bool.{true, false, _||_}
-use mathlib.Core.Logic.{_↔_, ⊎-elim}
+-- Demand 2: the numbers of refused calls, what an accepted opening, finish or result leaves, and the
+-- room that the state has.
+use Prim.Native.Nat.{ℕ, _+_, _-_, _*_, _≤_, _<_}
+use mathlib.Core.Path.{_≡_, refl, sym, _∙_, ap, subst}
+use mathlib.Core.Bool.{Bool, true, false, cond, _||_}
+use mathlib.Core.Logic.{_↔_, _⊎_, inl, inr}
 use mathlib.Core.List.{List}
+use native.Mathlib.Decide.{decLt}
 use native.Mathlib.Omega.{arith}
 use borrow.Author.Tests.{lt-ltb, ltb-true}
 use lib.Dec.{ltb}
@@ -15,19 +16,24 @@ use Rattle.unroll.specs.System.{Accesses}
 use Rattle.body.specs.Body.{firstSlot}
 use Rattle.body.specs.Items.{itemRank, itemCount, itemAt}
 use Rattle.body.specs.Places.{copy, system}
+use Rattle.edges.specs.Tests.{edgeTest}
+use Rattle.waits.specs.Waits.{meets}
 use Rattle.plan.specs.Limits.{maxWord}
 use Rattle.plan.specs.Layout.{planWords}
 use Rattle.graph.specs.Answers.{formedPlan, planBody}
 use Rattle.graph.proofs.Small.{plan-fits}
-use Rattle.steps.specs.State.{firstFinished, firstHeld}
-use Rattle.steps.specs.Answers.{isCount, isCopy, isSlot, isHeld, openOf, resultOf}
+use Rattle.steps.specs.State.{firstFinished, firstUnmet, firstHeld, stateOf, doneBy, unmetBy, FreshNumbers}
+use Rattle.steps.specs.Answers.{isCount, isCopy, isSlot, isHeld, openOf, finishOf, resultOf}
 use Rattle.steps.specs.Calls.{Call, start, finish, result, lent}
-use Rattle.steps.proofs.Accepting.{Clear}
-use Rattle.steps.proofs.Refusals.{within, none-short, not-short, open-11, open-12, call-11, call-12, call-13, start-14, start-15, start-16, finish-17, result-18}
+use Rattle.steps.proofs.Accepting.{Clear, open-accepted, finish-clear, finish-can}
+use Rattle.steps.proofs.Refusals.{within, none-short, not-short, open-11, open-12, call-11, call-12, call-13, start-14, start-15, start-16-number, start-16, finish-17, result-18}
 use Rattle.steps.proofs.Placing.{count-from, value-from, own-copy, items-few, beyond-unwritten}
-use Rattle.steps.proofs.Made.{open-count-size, open-value-size, open-started, open-finished, open-copy, open-slot, open-held}
+use Rattle.steps.proofs.Made.{open-count-size, open-value-size, open-started, open-finished, open-fresh, open-copy, open-slot, open-held}
+use Rattle.steps.proofs.Made.{finish-word, finish-count-size, finish-counted, finish-own, finish-other, finish-count-stays, finish-size, finish-written, finish-unwritten}
 use Rattle.steps.proofs.Made.{open-count-stays, open-value-stays, result-written, result-unwritten, result-no-pass, result-counts, result-values}
-use Rattle.taskiter.specs.Demands.{PlanReady, Ready, UsedCount, of-start, of-finish, UsedValue, of-copy, of-slot, of-held, OpenMade, ResultMade, Within, Numbers}
+use Rattle.taskiter.specs.Demands.{PlanReady, Ready, FreshCount, AllFresh, UsedCount, of-start, of-finish, of-unmet, UsedValue, of-copy, of-slot, of-held}
+use Rattle.taskiter.specs.Demands.{OpenMade, FinishMade, ResultMade, Within, Numbers}
+use Rattle.taskiter.proofs.Freshness.{fresh-count, fresh-all, all-fresh, meets-wait}
 use Rattle.taskiter.proofs.Readiness.{ready-form, ready-clear, form-ready, clear-ready}
 
 -- a test of limits, as a fact
@@ -49,6 +55,12 @@ module _ (plan counts values : List ℕ) (words : (i : ℕ) → getD plan i 0 �
   with-ready : {X Y Z : Type 0} → X ↔ (Clear plan counts values × Y × Z) → X ↔ (Ready plan counts values × Y × Z)
   with-ready k = (λ x. let h = k .0 x in (to-ready (h .0), h .1, h .2), λ h. k .1 (from-ready (h .0), h .1, h .2))
 
+  idle-ready : {X Y Z S T : Type 0} → X ↔ (Clear plan counts values × Y × Z × S × T) → X ↔ (Ready plan counts values × Y × Z × S × T)
+  idle-ready k = (λ x. let h = k .0 x in (to-ready (h .0), h .1, h .2, h .3, h .4), λ h. k .1 (from-ready (h .0), h .1, h .2, h .3, h .4))
+
+  fresh : AllFresh (planBody plan) counts values → Clear plan counts values → FreshNumbers (planBody plan) counts
+  fresh F c = all-fresh plan (c .formed-plan) counts values F
+
   pub numbers : Numbers plan counts values
   numbers =
       record {
@@ -68,9 +80,13 @@ module _ (plan counts values : List ℕ) (words : (i : ℕ) → getD plan i 0 �
             (λ e. let h = k .0 e in (to-ready (h .0), within-not plan c .0 (h .1)), λ h. k .1 (from-ready (h .0), within-not plan c .1 (h .1)));
         start-14 = λ a. with-ready (start-14 plan counts values a);
         start-15 = λ a. with-ready (start-15 plan counts values a);
-        start-16 = λ a.
-            let k = start-16 plan counts values a in
-            (λ e. let h = k .0 e in (to-ready (h .0), h .1, h .2, h .3, h .4), λ h. k .1 (from-ready (h .0), h .1, h .2, h .3, h .4));
+        start-16-stored = λ a. idle-ready (start-16-number plan counts values a);
+        start-16 = λ F a. (
+          λ e.
+              let f = fresh F (start-16-number plan counts values a .0 e .0) in
+              idle-ready (start-16 plan counts values a f) .0 e,
+          λ h. idle-ready (start-16 plan counts values a (fresh F (from-ready (h .0)))) .1 h,
+        );
         finish-17 = λ a. with-ready (finish-17 plan counts values a);
         result-18 = λ g. with-ready (result-18 plan counts values g);
       }
@@ -79,7 +95,7 @@ module _ (plan counts values : List ℕ) where
   -- what an accepted opening leaves
 
   count-used : (i : ℕ) → isCount (planBody plan) i ≡ true → UsedCount (planBody plan) i
-  count-used i e = ⊎-elim (λ l. of-start i l refl) (λ r. of-finish (r .0) (r .1) (r .2)) (count-from (planBody plan) i e)
+  count-used i = count-from (planBody plan) i (UsedCount (planBody plan) i) (λ l. of-start i l refl) of-finish of-unmet
 
   value-used : (x : ℕ) → (isCopy (planBody plan) x || (isSlot (planBody plan) x || isHeld (planBody plan) x)) ≡ true → UsedValue (planBody plan) x
   value-used x = value-from (planBody plan) x (UsedValue (planBody plan) x) of-copy of-slot of-held
@@ -89,7 +105,8 @@ module _ (plan counts values : List ℕ) where
       record {
         count-size = open-count-size plan counts values h;
         value-size = open-value-size plan counts values h;
-        count-set = set;
+        count-set = λ a l. (open-started plan counts values h a l, open-finished plan counts values h a l);
+        number-set = fresh-all plan (open-accepted plan counts values .0 h .1) (openOf plan counts values .counts) (openOf plan counts values .values) (open-fresh plan counts values h);
         copy-set = open-copy plan counts values h;
         slot-set = open-slot plan counts values h;
         held-set = open-held plan counts values h;
@@ -98,10 +115,46 @@ module _ (plan counts values : List ℕ) where
             open-value-stays plan counts values h x
             (false-of (isCopy (planBody plan) x || (isSlot (planBody plan) x || isHeld (planBody plan) x)) (λ e. f (value-used x e)));
       }
+
+  -- what an accepted finish leaves
+
+  pub finish-made : (a : ℕ) → finishOf plan counts values a .refusal ≡ 0 → FinishMade (planBody plan) counts values a (finishOf plan counts values a)
+  finish-made a h =
+      record {
+        word = finish-word plan counts values a h;
+        count-size = finish-count-size plan counts values a h;
+        counted = finish-counted plan counts values a h;
+        lowered = λ b lb other m.
+            finish-other plan counts values a h b lb other
+            ∙ ap (λ (t : Bool). cond t (unmetBy counts b - 1) (unmetBy counts b)) (meets-wait plan formed counts values a b below lb .1 m);
+        unlowered = λ b lb other f.
+            finish-other plan counts values a h b lb other
+            ∙ ap (λ (t : Bool). cond t (unmetBy counts b - 1) (unmetBy counts b))
+            (false-of (meets (system (planBody plan)) (edgeTest (planBody plan)) (doneBy counts) a b) (λ e. f (meets-wait plan formed counts values a b below lb .0 e)));
+        own = subst (FreshCount (planBody plan) (stateOf (finishOf plan counts values a .counts) (finishOf plan counts values a .values)) a) (sym (finish-own plan counts values a h))
+            (fresh-count plan formed (finishOf plan counts values a .counts) (finishOf plan counts values a .values) a below);
+        count-stays = λ i ne f. finish-count-stays plan counts values a h i ne (outside i f);
+        size = finish-size plan counts values a h;
+        written = finish-written plan counts values a h;
+        unwritten = finish-unwritten plan counts values a h;
+      }
     where
-      set : (i : ℕ) → UsedCount (planBody plan) i → getD (openOf plan counts values .counts) i 0 ≡ 0
-      set i (of-start a l e) = ap (λ (j : ℕ). getD (openOf plan counts values .counts) j 0) e ∙ open-started plan counts values h a l
-      set i (of-finish a l e) = ap (λ (j : ℕ). getD (openOf plan counts values .counts) j 0) e ∙ open-finished plan counts values h a l
+      formed : formedPlan plan ≡ true
+      formed = finish-clear plan counts values a h .formed-plan
+
+      below : a < itemCount (planBody plan)
+      below = finish-can plan counts values (finish-clear plan counts values a h) a .0 h .in-range
+
+      outside : (i : ℕ) → ((b : ℕ) → b < itemCount (planBody plan) → i ≡ firstUnmet + b → ⊥) → (i < firstUnmet) ⊎ (firstUnmet + itemCount (planBody plan) ≤ i)
+      outside i f =
+          elim (decLt i firstUnmet) [
+            | yes l ↦ inl l
+            | no l ↦
+                elim (decLt i (firstUnmet + itemCount (planBody plan))) [
+                  | yes k ↦ absurd (f (i - firstUnmet) (omega arith) (omega arith))
+                  | no k ↦ inr (omega arith)
+                ]
+          ]
 
   -- what an accepted result answers
 

@@ -12,8 +12,8 @@ use Rattle.plan.specs.Layout.{planWords, at}
 use Rattle.plan.specs.Form.{Words}
 use Rattle.reading.proofs.Theorems.{laws as reading-laws}
 use Rattle.graph.specs.Answers.{formedPlan}
-use Rattle.steps.specs.Answers.{longSlices, formedCounts}
-use Rattle.steps.proofs.Accepting.{long-slices, formed-counts, Clear}
+use Rattle.steps.specs.Answers.{longSlices, formedCounts, formedNumbers}
+use Rattle.steps.proofs.Accepting.{long-slices, formed-counts, formed-numbers, Clear}
 use Rattle.taskiter.specs.Given.{FromText}
 use Rattle.taskiter.specs.Demands.{PlanReady, Ready}
 
@@ -49,13 +49,15 @@ module _ (plan counts values : List ℕ) where
         long = ready-long (R .plan-ready);
         formed-plan = ready-form (R .plan-ready);
         formed-counts = formed-counts plan counts values .1 (λ a l. let k = R .counts-formed a l in (k .finished, k .started));
+        formed-numbers = formed-numbers plan counts values .1 (R .numbers-formed);
       }
 
-  pub counts-ready : PlanReady plan counts values → formedCounts plan counts values ≡ true → Ready plan counts values
-  counts-ready R f =
+  pub counts-ready : PlanReady plan counts values → formedCounts plan counts values ≡ true → formedNumbers plan counts values ≡ true → Ready plan counts values
+  counts-ready R f n =
       record {
         plan-ready = R;
         counts-formed = λ a l. let k = formed-counts plan counts values .0 f a l in record { finished = k .0; started = k .1 };
+        numbers-formed = formed-numbers plan counts values .0 n;
       }
 
   module _ (words : (i : ℕ) → getD plan i 0 ≤ maxWord) where
@@ -65,4 +67,4 @@ module _ (plan counts values : List ℕ) where
         record { long-plan = k .0; long-counts = k .1; long-values = k .2; read = formed-read plan words (k .0) f }
 
     pub clear-ready : Clear plan counts values → Ready plan counts values
-    clear-ready c = counts-ready (form-ready (c .long) (c .formed-plan)) (c .formed-counts)
+    clear-ready c = counts-ready (form-ready (c .long) (c .formed-plan)) (c .formed-counts) (c .formed-numbers)

@@ -8,7 +8,7 @@ use mathlib.Core.List.{List}
 use native.Mathlib.Decide.{ℕ-discrete}
 use native.Mathlib.Omega.{arith}
 use borrow.Author.Tests.{ltb-true, eq-eqb, ne-eqb}
-use lib.Dec.{eqb, ltb}
+use lib.Dec.{eqb, ltb, leb}
 use lib.ListN.{length, getD, take}
 use Rattle.finite.specs.Below.{allBelow}
 use Rattle.finite.proofs.Tests.{and-parts}
@@ -21,18 +21,18 @@ use Rattle.body.specs.Body.{Body, Fits}
 use Rattle.body.specs.Items.{itemCount, itemAt, itemPasses}
 use Rattle.body.specs.Places.{slot, copy, system, resultOf as regionResult}
 use Rattle.body.proofs.Accessed.{send-from}
-use Rattle.edges.specs.Tests.{kindAt, metTest, waitsTest}
+use Rattle.edges.specs.Tests.{kindAt}
 use Rattle.plan.specs.Layout.{planWords, bodyOf}
 use Rattle.plan.specs.Form.{inForm}
 use Rattle.graph.specs.Answers.{refusalOf, formedPlan, planBody, isItem}
 use Rattle.graph.proofs.Small.{plan-fits}
-use Rattle.steps.specs.State.{countWords, valueWords, firstFinished, firstHeld, stateOf}
-use Rattle.steps.specs.Answers.{Left, countOk, isComplete, startTests, finishTests, resultTests, longSlices, formedCounts, callRefusal, unless, started, startOf, finished, finishOf, shown, resultOf}
+use Rattle.steps.specs.State.{countWords, valueWords, firstFinished, firstUnmet, firstHeld, stateOf, unmetBy}
+use Rattle.steps.specs.Answers.{Left, countOk, isComplete, startTests, finishTests, resultTests, longSlices, formedCounts, formedNumbers, callRefusal, unless, started, startOf, finished, finishOf, shown, resultOf}
 use Rattle.steps.specs.Calls.{Call, start, finish, result, Lent, call}
-use Rattle.steps.proofs.Accepting.{Clear, refusal-none, long-slices, start-clear, start-can, finish-clear, finish-can, result-clear, result-shown, every-unchanged}
+use Rattle.steps.proofs.Accepting.{formedState, Clear, refusal-none, long-slices, start-clear, start-turn, finish-clear, finish-can, result-clear, result-shown, every-unchanged}
 use Rattle.steps.proofs.Made.{start-word, finish-word}
 use Rattle.steps.proofs.Placing.{place-ind}
-use Rattle.taskiter.specs.Demands.{Short, of-start, of-finish, UsedValue, of-copy, of-slot, of-held, SameUsed}
+use Rattle.taskiter.specs.Demands.{Short, of-start, of-finish, of-unmet, UsedValue, of-copy, of-slot, of-held, SameUsed}
 use Rattle.taskiter.proofs.AnyOrder.{result-agree}
 
 -- the tests, on states with the same counts of items
@@ -43,12 +43,8 @@ module _ (B : Body) (s t : State) (started-same : (a : ℕ) → a < itemCount B 
   complete-same : isComplete B s ≡ isComplete B t
   complete-same = all-ext (itemCount B) (λ a. eqb (s .finished a) (itemPasses B a)) (λ a. eqb (t .finished a) (itemPasses B a)) (λ a l. rw (finished-same a l))
 
-  waits-same : (p a : ℕ) → waitsTest B (s .finished) p a ≡ waitsTest B (t .finished) p a
-  unfolding waitsTest metTest
-  waits-same p a = all-ext (itemCount B) (λ b. metTest B (s .finished) p b a) (λ b. metTest B (t .finished) p b a) (λ b l. rw (finished-same b l))
-
-  start-same : (a : ℕ) → a < itemCount B → startTests B s a ≡ startTests B t a
-  start-same a l = rw (started-same a l, finished-same a l, waits-same (t .started a) a)
+  start-same : (a n m : ℕ) → a < itemCount B → n ≡ m → startTests B s n a ≡ startTests B t m a
+  start-same a n m l e = rw (started-same a l, finished-same a l, e)
 
   finish-same : (a : ℕ) → a < itemCount B → finishTests s a ≡ finishTests t a
   finish-same a l = rw (started-same a l, finished-same a l)
@@ -108,8 +104,16 @@ module _ (plan plan′ : List ℕ) (s t : Lent) (e : take planWords plan ≡ tak
       counts-same B here there started-used finished-used
       ∙ ap (λ (w : List ℕ). allBelow (itemCount (bodyOf w)) (λ a. countOk (itemPasses (bodyOf w) a) there a)) e
 
+  unmet-used : (a : ℕ) → a < itemCount B → unmetBy (s .counts) a ≡ unmetBy (t .counts) a
+  unmet-used a l = U .same-counts (firstUnmet + a) (of-unmet a l refl)
+
+  numbers-used : formedNumbers plan (s .counts) (s .values) ≡ formedNumbers plan′ (t .counts) (t .values)
+  numbers-used =
+      all-ext (itemCount B) (λ a. leb (unmetBy (s .counts) a) (itemCount B)) (λ a. leb (unmetBy (t .counts) a) (itemCount B)) (λ a l. rw (unmet-used a l))
+      ∙ ap (λ (w : List ℕ). allBelow (itemCount (bodyOf w)) (λ a. leb (unmetBy (t .counts) a) (itemCount (bodyOf w)))) e
+
   call-same : (in-s in-t : Bool) → in-s ≡ in-t → callRefusal plan (s .counts) (s .values) in-s ≡ callRefusal plan′ (t .counts) (t .values) in-t
-  call-same in-s in-t i = rw (long, long′) (ap₂ (refusalOf true) (and-parts (ap inForm e) counts-used) i)
+  call-same in-s in-t i = rw (long, long′) (ap₂ (refusalOf true) (and-parts (ap inForm e) (and-parts counts-used numbers-used)) i)
 
   -- a call with its own tests, which are the same where its number lies within its limit
   judged-same : (in-s in-t : Bool) (n m : ℕ) (r q : Left) → in-s ≡ in-t → (in-s ≡ true → n ≡ m) → r .refusal ≡ q .refusal →
@@ -119,7 +123,7 @@ module _ (plan plan′ : List ℕ) (s t : Lent) (e : take planWords plan ≡ tak
       unless-same plan plan′ s t (callRefusal plan (s .counts) (s .values) in-s) (callRefusal plan′ (t .counts) (t .values) in-t)
       (unless plan (s .counts) (s .values) n r) (unless plan′ (t .counts) (t .values) m q) (call-same in-s in-t i)
       (λ z. unless-same plan plan′ s t n m r q
-      (f (refusal-none (longSlices plan (s .counts) (s .values)) (formedPlan plan && formedCounts plan (s .counts) (s .values)) in-s z .2)) (λ y. h))
+      (f (refusal-none (longSlices plan (s .counts) (s .values)) (formedPlan plan && formedState plan (s .counts) (s .values)) in-s z .2)) (λ y. h))
 
   item-same : (a : ℕ) → isItem plan a ≡ isItem plan′ a
   item-same a = ap (λ (w : List ℕ). ltb a (itemCount (bodyOf w))) e
@@ -127,9 +131,12 @@ module _ (plan plan′ : List ℕ) (s t : Lent) (e : take planWords plan ≡ tak
   refusal-same : (c : Call) → call plan s c .refusal ≡ call plan′ t c .refusal
   unfolding startOf finishOf resultOf
   refusal-same (start a) =
-      judged-same (isItem plan a) (isItem plan′ a) (startTests B here a) (startTests (planBody plan′) there a)
+      judged-same (isItem plan a) (isItem plan′ a) (startTests B here (unmetBy (s .counts) a) a) (startTests (planBody plan′) there (unmetBy (t .counts) a) a)
       (started plan (s .counts) (s .values) a) (started plan′ (t .counts) (t .values) a) (item-same a)
-      (λ i. start-same B here there started-used finished-used a (ltb-true a (itemCount B) i) ∙ ap (λ (w : List ℕ). startTests (bodyOf w) there a) e) refl
+      (λ i.
+      let l = ltb-true a (itemCount B) i in
+      start-same B here there started-used finished-used a (unmetBy (s .counts) a) (unmetBy (t .counts) a) l (unmet-used a l)
+      ∙ ap (λ (w : List ℕ). startTests (bodyOf w) there (unmetBy (t .counts) a) a) e) refl
   refusal-same (finish a) =
       judged-same (isItem plan a) (isItem plan′ a) (finishTests here a) (finishTests there a)
       (finished plan (s .counts) (s .values) a) (finished plan′ (t .counts) (t .values) a) (item-same a)
@@ -146,7 +153,7 @@ module _ (plan plan′ : List ℕ) (s t : Lent) (e : take planWords plan ≡ tak
   accepted-same (start a) h k =
       let c = start-clear plan (s .counts) (s .values) a h in
       start-word plan (s .counts) (s .values) a h
-      ∙ (agree-word (system B) here there a (start-can plan (s .counts) (s .values) c a .0 h .in-range) (agree c)
+      ∙ (agree-word (system B) here there a (start-turn plan (s .counts) (s .values) c a .0 h .0) (agree c)
       ∙ (ap (λ (w : List ℕ). wordOn (system (bodyOf w)) a (there .places)) e ∙ sym (start-word plan′ (t .counts) (t .values) a k)))
   accepted-same (finish a) h k =
       let c = finish-clear plan (s .counts) (s .values) a h in

@@ -1,19 +1,21 @@
 -- The three demands on the runtime, stated over the contracts of its functions (src/lib.rt): the
 -- definitions that they are equated with, `openOf`, `startOf`, `finishOf`, `resultOf` of the crate
 -- steps, and the records that hold of their answers, `Reads`, `ItemsAnswer`, `EdgesAnswer`,
--- `TotalAnswer`, `Played` and `WriteAnswer`. Proved in proofs/Demands.antt. That nothing undefined
+-- `TotalAnswer`, `ReadyAnswer`, `Played` and `WriteAnswer`. Proved in proofs/Demands.antt. That nothing undefined
 -- is done and every call ends is the check of the code itself.
-use Prim.Native.Nat.{ℕ, suc, _+_, _*_, _≤_, _<_}
+use Prim.Native.Nat.{ℕ, suc, _+_, _-_, _*_, _≤_, _<_}
 use mathlib.Core.Path.{_≡_}
-use mathlib.Core.Bool.{true, false, cond}
+use mathlib.Core.Bool.{Bool, true, false, cond}
 use mathlib.Core.Logic.{_↔_, _⊎_}
 use mathlib.Core.List.{List, [], _∷_, _++_, map, List·Memᴰ as In}
 use lib.Dec.{leb}
 use lib.ListN.{length, getD, set, take, drop, replicate}
+use Rattle.finite.specs.Below.{countBelow}
 use Rattle.finite.specs.Lists.{mem}
 use Rattle.kernels.specs.Kernels.{total, Nearest, MeanLaws}
 use Rattle.unroll.specs.System.{Accesses}
 use Rattle.unroll.specs.Sequential.{wordOn}
+use Rattle.unroll.specs.Edges.{Edge}
 use Rattle.unroll.specs.Machine.{State, CanFinish}
 use Rattle.unroll.specs.Meaning.{StartRule}
 use Rattle.body.specs.Body.{Body, firstSlot}
@@ -22,7 +24,9 @@ use Rattle.body.specs.Transfers.{transferCount}
 use Rattle.body.specs.Items.{send, writer, itemRank, itemCount, itemAt, itemPasses, totalSteps}
 use Rattle.body.specs.Places.{slot, copy, system}
 use Rattle.body.specs.Meaning.{LastWriter, Meaning}
+use Rattle.waits.specs.Waits.{Unmet}
 use Rattle.plan.specs.Limits.{maxBytes, maxPasses, maxTransfers, maxWord}
+use Rattle.plan.specs.Sizes.{maxItems}
 use Rattle.plan.specs.Layout.{planWords, tasksOf, kernelOf, readsOf, bodyOf}
 use Rattle.text.specs.Records.{split}
 use Rattle.reading.specs.Plan.{Plan, wordsOf}
@@ -36,9 +40,10 @@ use Rattle.reader.specs.Answer.{Reads}
 use Rattle.graph.specs.declared.Number.{Number}
 use Rattle.graph.specs.Answers.{planBody, ItemsAnswer, EdgesAnswer, TotalAnswer}
 use Rattle.writer.specs.Answer.{WriteAnswer}
-use Rattle.steps.specs.State.{countWords, valueWords, firstFinished, firstHeld, stateOf}
+use Rattle.steps.specs.State.{countWords, valueWords, firstFinished, firstUnmet, firstHeld, stateOf, unmetBy}
 use Rattle.steps.specs.Answers.{Left, openOf, startOf, finishOf, resultOf}
 use Rattle.steps.specs.Calls.{Call, start, finish, result, isStart, isFinish, isStep, Lent, lent, lentBy, call, play, replies, accepted}
+use Rattle.steps.specs.Ready.{ReadyAnswer}
 use Rattle.taskiter.specs.Given.{FromText, ItemsGiven, EdgesGiven, TotalGiven, TextGiven}
 use Rattle.taskiter.specs.Kept.{Kept, CountsFit}
 use Rattle.taskiter.specs.Played.{callOf, callsOf, ahead, wordOf, numberOf, callNumbers, Played}
@@ -105,26 +110,51 @@ pub record PlanReady (plan counts values : List ℕ) : Type 0 where
   pub long-values : valueWords ≤ length values
   pub read : FromText plan
 
--- besides, the counts of every item are in form: neither 11 nor 12 is given
+-- besides, the counts of every item are in form, and its number of unmet waits is at most the number
+-- of items: neither 11 nor 12 is given
 pub record Ready (plan counts values : List ℕ) : Type 0 where
   pub plan-ready : PlanReady plan counts values
   pub counts-formed : (a : ℕ) → a < itemCount (planBody plan) → CountInForm (itemPasses (planBody plan) a) (stateOf counts values) a
+  pub numbers-formed : (a : ℕ) → a < itemCount (planBody plan) → unmetBy counts a ≤ itemCount (planBody plan)
+
+-- n is how many waits of item a for the first pass that it has not finished are unmet, counted
+-- afresh over the edges; 0 once its passes are done. From each item one edge at most leads to a
+-- (Steps .one-edge), so that items are counted: those that some test t picks
+pub record FreshCount (B : Body) (s : State) (a n : ℕ) : Type 0 where
+  pub done : itemPasses B a ≤ s .finished a → n ≡ 0
+  pub left : s .finished a < itemPasses B a → (t : ℕ → Bool) × (n ≡ countBelow (itemCount B) t)
+      × ((b : ℕ) → b < itemCount B → (t b ≡ true) ↔ Unmet (system B) s a b)
+
+-- every number in the lent state is such a count
+abbrev pub AllFresh : Body → List ℕ → List ℕ → Type 0
+AllFresh B counts values = (a : ℕ) → a < itemCount B → FreshCount B (stateOf counts values) a (unmetBy counts a)
+
+-- item a is in turn by the number that is stored: it has a pass left, does not run, and has no unmet
+-- wait
+pub record InTurn (B : Body) (counts values : List ℕ) (a : ℕ) : Type 0 where
+  pub in-range : a < itemCount B
+  pub left : stateOf counts values .finished a < itemPasses B a
+  pub idle : stateOf counts values .started a ≡ stateOf counts values .finished a
+  pub none-unmet : unmetBy counts a ≡ 0
 
 -- the counts that a plan uses, and of the values the copies, the slots of its sends and the held words
 pub data UsedCount (B : Body) (i : ℕ) : Type 0 where
   of-start : (a : ℕ) → a < itemCount B → i ≡ a → UsedCount B i
   of-finish : (a : ℕ) → a < itemCount B → i ≡ firstFinished + a → UsedCount B i
+  of-unmet : (a : ℕ) → a < itemCount B → i ≡ firstUnmet + a → UsedCount B i
 
 pub data UsedValue (B : Body) (x : ℕ) : Type 0 where
   of-copy : (q g : ℕ) → q < B .ranks → g < B .regions → x ≡ copy B q g → UsedValue B x
   of-slot : (a i g q : ℕ) → a < itemCount B → itemAt B a ≡ send i g q → x ≡ slot a → UsedValue B x
   of-held : (a : ℕ) → a < itemCount B → x ≡ firstHeld + a → UsedValue B x
 
--- an accepted opening sets every copy to its starting value, and counts, slots and held words to 0; what the plan does not use stays
+-- an accepted opening sets every copy to its starting value, passes, slots and held words to 0, and
+-- each number of unmet waits to a fresh count; what the plan does not use stays
 pub record OpenMade (B : Body) (counts values : List ℕ) (r : Left) : Type 0 where
   pub count-size : length (r .counts) ≡ length counts
   pub value-size : length (r .values) ≡ length values
-  pub count-set : (i : ℕ) → UsedCount B i → getD (r .counts) i 0 ≡ 0
+  pub count-set : (a : ℕ) → a < itemCount B → (getD (r .counts) a 0 ≡ 0) × (getD (r .counts) (firstFinished + a) 0 ≡ 0)
+  pub number-set : AllFresh B (r .counts) (r .values)
   pub copy-set : (q g : ℕ) → q < B .ranks → g < B .regions → getD (r .values) (copy B q g) 0 ≡ B .starting g
   pub slot-set : (a i g q : ℕ) → a < itemCount B → itemAt B a ≡ send i g q → getD (r .values) (slot a) 0 ≡ 0
   pub held-set : (a : ℕ) → a < itemCount B → getD (r .values) (firstHeld + a) 0 ≡ 0
@@ -137,10 +167,25 @@ pub record StartMade (B : Body) (counts values : List ℕ) (a : ℕ) (r : Left) 
   pub counted : r .counts ≡ set counts a (suc (getD counts a 0))
   pub held : r .values ≡ set values (firstHeld + a) (r .word)
 
--- an accepted finish of item a writes the word held to the places that a writes, and answers it; it counts the finish and changes nothing else
+-- a finish of item a meets a wait of item b: an edge leads from a to b, the pass that a finishes
+-- serves the first pass that b has not finished, and b has that pass
+pub record MeetsWait (B : Body) (s : State) (a b : ℕ) : Type 0 where
+  pub d : ℕ
+  pub edge : Edge (system B) a b d
+  pub pass : s .finished b ≡ s .finished a + d
+  pub left : s .finished b < itemPasses B b
+
+-- an accepted finish of item a writes the word held to the places that a writes, and answers it; it
+-- counts the finish, takes one off the number of each other item whose wait it meets, a 0 staying 0,
+-- counts its own afresh, and changes nothing else
 pub record FinishMade (B : Body) (counts values : List ℕ) (a : ℕ) (r : Left) : Type 0 where
   pub word : r .word ≡ getD values (firstHeld + a) 0
-  pub counted : r .counts ≡ set counts (firstFinished + a) (suc (getD counts (firstFinished + a) 0))
+  pub count-size : length (r .counts) ≡ length counts
+  pub counted : getD (r .counts) (firstFinished + a) 0 ≡ suc (getD counts (firstFinished + a) 0)
+  pub lowered : (b : ℕ) → b < itemCount B → (b ≡ a → ⊥) → MeetsWait B (stateOf counts values) a b → unmetBy (r .counts) b ≡ unmetBy counts b - 1
+  pub unlowered : (b : ℕ) → b < itemCount B → (b ≡ a → ⊥) → (MeetsWait B (stateOf counts values) a b → ⊥) → unmetBy (r .counts) b ≡ unmetBy counts b
+  pub own : FreshCount B (stateOf (r .counts) (r .values)) a (unmetBy (r .counts) a)
+  pub count-stays : (i : ℕ) → (i ≡ firstFinished + a → ⊥) → ((b : ℕ) → b < itemCount B → i ≡ firstUnmet + b → ⊥) → getD (r .counts) i 0 ≡ getD counts i 0
   pub size : length (r .values) ≡ length values
   pub written : (x : ℕ) → mem x (system B .writes a) ≡ true → getD (r .values) x 0 ≡ r .word
   pub unwritten : (x : ℕ) → mem x (system B .writes a) ≡ false → getD (r .values) x 0 ≡ getD values x 0
@@ -174,7 +219,10 @@ pub record Numbers (plan counts values : List ℕ) : Type 0 where
       ↔ (Ready plan counts values × (a < itemCount (planBody plan)) × (stateOf counts values .finished a ≡ itemPasses (planBody plan) a))
   pub start-15 : (a : ℕ) → (startOf plan counts values a .refusal ≡ 15)
       ↔ (Ready plan counts values × (a < itemCount (planBody plan)) × (stateOf counts values .started a ≡ suc (stateOf counts values .finished a)))
-  pub start-16 : (a : ℕ) → (startOf plan counts values a .refusal ≡ 16)
+  pub start-16-stored : (a : ℕ) → (startOf plan counts values a .refusal ≡ 16)
+      ↔ (Ready plan counts values × (a < itemCount (planBody plan)) × (stateOf counts values .finished a < itemPasses (planBody plan) a)
+      × (stateOf counts values .started a ≡ stateOf counts values .finished a) × (unmetBy counts a ≡ 0 → ⊥))
+  pub start-16 : AllFresh (planBody plan) counts values → (a : ℕ) → (startOf plan counts values a .refusal ≡ 16)
       ↔ (Ready plan counts values × (a < itemCount (planBody plan)) × (stateOf counts values .finished a < itemPasses (planBody plan) a)
       × (stateOf counts values .started a ≡ stateOf counts values .finished a) × (StartRule (system (planBody plan)) (stateOf counts values) a → ⊥))
   pub finish-17 : (a : ℕ) → (finishOf plan counts values a .refusal ≡ 17)
@@ -198,9 +246,13 @@ pub record Steps (plan counts values : List ℕ) : Type 0 where
   pub room : PlanReady plan counts values → (itemCount (planBody plan) ≤ firstFinished) × (planBody plan .ranks * planBody plan .regions ≤ firstSlot)
   pub held-apart : PlanReady plan counts values → (a b : ℕ) → a < itemCount (planBody plan) → mem (firstHeld + b) (system (planBody plan) .writes a) ≡ false
   pub opens : (openOf plan counts values .refusal ≡ 0) ↔ PlanReady plan counts values
-  -- a start is accepted exactly when the item is in turn and everything it must wait for has
-  -- finished or is not made, a finish exactly when its item runs
-  pub starts : (a : ℕ) → (startOf plan counts values a .refusal ≡ 0) ↔ (Ready plan counts values × StartRule (system (planBody plan)) (stateOf counts values) a)
+  pub one-edge : PlanReady plan counts values → (a b d e : ℕ) → Edge (system (planBody plan)) a b d → Edge (system (planBody plan)) a b e → d ≡ e
+  -- a start is accepted exactly when the item is in turn by its stored number: where the numbers are
+  -- fresh counts, as after every list of calls from an opening (demand 3), exactly when it is in turn
+  -- and everything it must wait for has finished or is not made; a finish exactly when its item runs
+  pub starts-stored : (a : ℕ) → (startOf plan counts values a .refusal ≡ 0) ↔ (Ready plan counts values × InTurn (planBody plan) counts values a)
+  pub starts : AllFresh (planBody plan) counts values → (a : ℕ) →
+      (startOf plan counts values a .refusal ≡ 0) ↔ (Ready plan counts values × StartRule (system (planBody plan)) (stateOf counts values) a)
   pub finishes : (a : ℕ) → (finishOf plan counts values a .refusal ≡ 0) ↔ (Ready plan counts values × CanFinish (system (planBody plan)) (stateOf counts values) a)
   pub results : (g : ℕ) → (resultOf plan counts values g .refusal ≡ 0)
       ↔ (Ready plan counts values × (g < planBody plan .regions) × Complete (planBody plan) (stateOf counts values))
@@ -211,6 +263,19 @@ pub record Steps (plan counts values : List ℕ) : Type 0 where
   pub finished : (a : ℕ) → finishOf plan counts values a .refusal ≡ 0 → FinishMade (planBody plan) counts values a (finishOf plan counts values a)
   pub shown : (g : ℕ) → resultOf plan counts values g .refusal ≡ 0 → ResultMade (planBody plan) counts values g (resultOf plan counts values g)
 
+-- what C gets from `taskiter_ready`: each refusal exactly when its condition holds, and then nothing
+-- is changed; accepted, the items whose start is accepted, rising, and how many; what lies behind stays
+pub record ReadyGiven (plan counts values items : List ℕ) (r : Number) (items′ : List ℕ) : Type 0 where
+  pub refusal-11 : (r .refusal ≡ 11) ↔ (Short plan counts values ⊎ (length items < maxItems))
+  pub refusal-12 : (r .refusal ≡ 12) ↔ ((Short plan counts values ⊎ (length items < maxItems) → ⊥) × (Ready plan counts values → ⊥))
+  pub refusal-0 : (r .refusal ≡ 0) ↔ (Ready plan counts values × (maxItems ≤ length items))
+  pub refused : (r .refusal ≡ 0 → ⊥) → (r .number ≡ 0) × (items′ ≡ items)
+  pub exactly : r .refusal ≡ 0 → (a : ℕ) → In a (take (r .number) items′) ↔ (startOf plan counts values a .refusal ≡ 0)
+  pub rising : r .refusal ≡ 0 → (i j : ℕ) → i < j → j < r .number → getD items′ i 0 < getD items′ j 0
+  pub fits : r .number ≤ length items
+  pub size : length items′ ≡ length items
+  pub behind : (i : ℕ) → r .number ≤ i → getD items′ i 0 ≡ getD items i 0
+
 pub record Demand2 : Type 0 where
   -- the graph that C gets, from the contracts of `taskiter_items` and `taskiter_edges`, and the
   -- total of steps, from that of `taskiter_total`
@@ -220,6 +285,8 @@ pub record Demand2 : Type 0 where
       EdgesAnswer plan list r list′ → EdgesGiven plan list r list′
   pub total : (plan : List ℕ) (r : Number) → ((i : ℕ) → getD plan i 0 ≤ maxWord) → TotalAnswer plan r → TotalGiven plan r
   pub steps : (plan counts values : List ℕ) → ((i : ℕ) → getD plan i 0 ≤ maxWord) → Steps plan counts values
+  pub ready : (plan counts values items : List ℕ) (r : Number) (items′ : List ℕ) → ((i : ℕ) → getD plan i 0 ≤ maxWord) →
+      ReadyAnswer plan counts values items r items′ → ReadyGiven plan counts values items r items′
   -- what lies behind the sizes, and state that the plan does not use, is not read
   pub unread : (plan plan′ : List ℕ) (s t : Lent) (c : Call) → take planWords plan ≡ take planWords plan′ →
       (Short plan (s .counts) (s .values) → ⊥) → (Short plan′ (t .counts) (t .values) → ⊥) → SameUsed (planBody plan) s t →
@@ -259,6 +326,8 @@ module _ (B : Body) (plan : List ℕ) (s : Lent) where
     -- the counts of the state are those of accepted starts and finishes
     pub counted : (a : ℕ) → a < itemCount B →
         (getD (play plan s l .counts) a 0 ≡ startsOf a l) × (getD (play plan s l .counts) (firstFinished + a) 0 ≡ finishesOf a l)
+    -- each number of unmet waits is a fresh count over the edges
+    pub numbers : AllFresh B (play plan s l .counts) (play plan s l .values)
     -- what the calls of the list answer, one after another
     pub replied : (k m : List Call) (c : Call) → l ≡ k ++ (c ∷ m) → getD (replies plan s l) (length k) (callAfter l c) ≡ callAfter k c
     -- the list does not stop short: while an item has a pass left some step is accepted, and accepted steps lead on to the end

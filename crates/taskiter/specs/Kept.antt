@@ -1,12 +1,15 @@
 -- What a raised limit on passes leaves as it was (paper 02, card 5). Before the card the runtime was
--- these definitions with 1,000,000 in place of `maxPasses`. Counts are numbers here, whatever their
--- width: a state whose counts are copied over, number by number, is the same state.
+-- these definitions with 1,000,000 in place of `maxPasses`, and counted no waits (card 7). Counts are
+-- numbers here, whatever their width: a state whose counts are copied over, number by number, is the
+-- same state. One from before card 7 holds no numbers of unmet waits, and is left out unless it gets
+-- fresh ones: with them a start is accepted as before (Demands, Steps .starts).
 use Prim.Native.Nat.{ℕ, _≤_}
 use mathlib.Core.Path.{_≡_}
 use mathlib.Core.Bool.{Bool, _&&_}
 use mathlib.Core.List.{List, [], _∷_}
 use lib.Dec.{leb}
 use lib.ListN.{getD}
+use Rattle.body.specs.Items.{itemCount}
 use Rattle.reading.specs.Laws.{TextsKept}
 use Rattle.graph.specs.Answers.{formedPlan, formedWithin, planBody}
 use Rattle.steps.specs.Answers.{Left, openBy, openOf, startBy, finishBy, resultBy}
@@ -40,8 +43,9 @@ pub record Kept (most : ℕ) : Type 0 where
   pub plays : (plan : List ℕ) (s : Lent) (l : List Call) → planBody plan .passes ≤ most → playBy plan (formedWithin plan most) s l ≡ play plan s l
   pub answers : (plan : List ℕ) (s : Lent) (l : List Call) → planBody plan .passes ≤ most → repliesBy plan (formedWithin plan most) s l ≡ replies plan s l
 
--- where the plan has at most `top` passes and no count is above `top`, the unused ones too, none is
--- after an opening and none after a list of calls: with `top` = 2^32 - 1, counts of 32 bits stay so
+-- where the plan has at most `top` passes and items, and no count is above `top`, the unused ones too,
+-- none is after an opening and none after a list of calls: with `top` = 2^32 - 1, counts of 32 bits
+-- stay so
 abbrev pub CountsFit : Type 0
-CountsFit = (plan : List ℕ) (top : ℕ) → planBody plan .passes ≤ top → (s : Lent) → ((i : ℕ) → getD (s .counts) i 0 ≤ top) →
+CountsFit = (plan : List ℕ) (top : ℕ) → planBody plan .passes ≤ top → itemCount (planBody plan) ≤ top → (s : Lent) → ((i : ℕ) → getD (s .counts) i 0 ≤ top) →
     ((i : ℕ) → getD (openOf plan (s .counts) (s .values) .counts) i 0 ≤ top) × ((l : List Call) (i : ℕ) → getD (play plan s l .counts) i 0 ≤ top)

@@ -11,7 +11,7 @@ use Rattle.steps.specs.State.{stateOf}
 use Rattle.steps.specs.Answers.{openOf, resultOf}
 use Rattle.steps.specs.Calls.{Call, isStep, Lent, lent, lentBy, play, accepted}
 use Rattle.steps.specs.Running.{Taken}
-use Rattle.taskiter.specs.Demands.{Complete}
+use Rattle.taskiter.specs.Demands.{Complete, AllFresh}
 
 -- from the state s to the state t in so many steps
 pub record Run (plan : List ℕ) (s t : Lent) (steps : ℕ) : Type 0 where
@@ -24,6 +24,8 @@ pub record Run (plan : List ℕ) (s t : Lent) (steps : ℕ) : Type 0 where
   -- then the loop is complete, after two steps for each pass that each item has
   pub complete : Complete (planBody plan) (stateOf (t .counts) (t .values))
   pub total : steps ≡ totalSteps (planBody plan)
+  -- each number of unmet waits is a fresh count over the edges
+  pub numbers : AllFresh (planBody plan) (t .counts) (t .values)
   -- no other list of steps is taken in that order and leads to a complete loop
   pub only : (k : List Call) → Taken plan s k → Complete (planBody plan) (stateOf (play plan s k .counts) (play plan s k .values)) → k ≡ calls
   -- every region's result is accepted, and is its final number in the unrolled loop
