@@ -1,31 +1,26 @@
--- The test of an edge is the edge rule, and the test of waits is the rule of waits.
-use Prim.Native.Nat.{ℕ, zero, suc, _+_, _-_, _≤_, _<_}
+-- The test of an edge is the edge rule.
+use Prim.Native.Nat.{ℕ, suc, _+_, _-_, _≤_, _<_}
 use mathlib.Core.Path.{_≡_, refl, sym, _∙_, ap, subst}
-use mathlib.Core.Bool.{Bool, true, false, cond, not, _&&_, _||_, or-true}
-use mathlib.Core.Logic.{_⊎_, inl, ⊎-elim, _↔_}
+use mathlib.Core.Bool.{true, false, not, _&&_, _||_, or-true}
+use mathlib.Core.Logic.{_⊎_, ⊎-elim}
 use native.Mathlib.Decide.{decLt, ℕ-discrete}
 use native.Mathlib.Omega.{arith}
-use borrow.Author.Tests.{eqb-true, eq-eqb, ne-eqb, lt-ltb, le-ltb, le-leb, leb-true, ltb-true, not-true}
-use lib.Dec.{eqb, ltb, leb}
+use borrow.Author.Tests.{eqb-true, eq-eqb, ne-eqb, lt-ltb, le-ltb, le-leb, leb-true, not-true}
+use lib.Dec.{eqb, leb}
 use Rattle.finite.proofs.Tests.{and-intro, and-true, not-both, or-cases, or-parts}
-use Rattle.finite.proofs.Below.{all-at, all-of, any-at, any-from, any-never}
+use Rattle.finite.proofs.Below.{any-at, any-from, any-never}
 use Rattle.unroll.specs.Instances.{earlier, within}
 use Rattle.unroll.specs.System.{System, Accesses, writing, Writes}
 use Rattle.unroll.specs.Edges.{Conflict, Unwritten, Dependence, Edge, rule, reuse}
-use Rattle.unroll.specs.Machine.{State}
-use Rattle.unroll.specs.Meaning.{StartRule}
 use Rattle.unroll.proofs.Instances.{before-item}
 use Rattle.unroll.proofs.LastWriter.{unwritten-same, unwritten-next}
-use Rattle.unroll.proofs.Edges.{edge-distance, edge-from, edge-within, conflict-written, conflict-writes}
-use Rattle.unroll.proofs.Theorems.{finished-rule}
+use Rattle.unroll.proofs.Edges.{edge-distance, conflict-written, conflict-writes}
 use Rattle.body.specs.Body.{Body, Fits}
-use Rattle.body.specs.Items.{itemCount, itemAt, itemPasses}
+use Rattle.body.specs.Items.{itemCount, itemAt}
 use Rattle.body.specs.Places.{slot, copy, system}
 use Rattle.body.proofs.Accessed.{Place, of-copy, of-send, of-receive, place-of, rank-below, send-kind, receive-kind, send-slot, receive-slot, slot-users}
-use Rattle.body.proofs.Made.{waits-made}
 use Rattle.edges.specs.Touch.{touchOn}
-use Rattle.edges.specs.Tests.{written, writtenBetween, crossed, distance, kindAt, rankAt, paired, copyEdge, edgeTest, metTest, waitsTest}
-use Rattle.edges.specs.Rule.{WaitsMet}
+use Rattle.edges.specs.Tests.{written, writtenBetween, crossed, distance, kindAt, rankAt, paired, copyEdge, edgeTest}
 use Rattle.edges.proofs.Touches.{touch-most, writes-touch, touch-writes, accesses-touch, touch-accesses, touch-region}
 
 pub distance-later : (a b : ℕ) → a < b → distance a b ≡ 0
@@ -258,75 +253,3 @@ module _ (B : Body) (F : Fits B) where
           | yes s ↦ test-same B a b s
           | no ne ↦ dependence-test a b d ne (edge-distance-is (system B) a b d (rule e)) e
         ]
-
--- the wait of item a for item b
-module _ (B : Body) (fin : ℕ → ℕ) (p b a : ℕ) where
-  met-later : metTest B fin p b a ≡ true → edgeTest B b a ≡ true → b < a → p < fin b
-  unfolding metTest
-  met-later h e l = ltb-true p (fin b) (rw (e, lt-ltb b a l) at h)
-
-  met-next : metTest B fin p b a ≡ true → edgeTest B b a ≡ true → a ≤ b → p ≤ fin b
-  unfolding metTest
-  met-next h e l = leb-true p (fin b) (rw (e, le-ltb b a l) at h)
-
-  met-of : (edgeTest B b a ≡ true → (b < a → p < fin b) × (a ≤ b → p ≤ fin b)) → metTest B fin p b a ≡ true
-  unfolding metTest
-  met-of f = go (edgeTest B b a) refl
-    where
-      go : (t : Bool) → edgeTest B b a ≡ t → (not t || cond (ltb b a) (ltb p (fin b)) (leb p (fin b))) ≡ true
-      go false e = refl
-      go true e =
-          elim (decLt b a) [
-            | yes l ↦ rw (lt-ltb b a l) (lt-ltb p (fin b) (f e .0 l))
-            | no l ↦ (let m : a ≤ b = omega arith in rw (le-ltb b a m) (le-leb p (fin b) (f e .1 m)))
-          ]
-
-module _ (B : Body) (F : Fits B) (few : B .regions ≤ 128) (fin : ℕ → ℕ) (a p : ℕ) (la : a < itemCount B) where
-  test-waits : waitsTest B fin p a ≡ true → WaitsMet B fin a p
-  unfolding waitsTest
-  test-waits h =
-      record {
-        same-pass = λ b e. met-later B fin p b a (met b 0 e) (edge-test B F few b a 0 e) (edge-within (system B) b a 0 e refl);
-        pass-before = λ b r e s. omega (arith, met-next B fin p b a (met b 1 e) (edge-test B F few b a 1 e) (back b e));
-      }
-    where
-      met : (b d : ℕ) → Edge (system B) b a d → metTest B fin p b a ≡ true
-      met b d e = all-at (λ b. metTest B fin p b a) (itemCount B) b h (edge-from (system B) b a d e)
-
-      back : (b : ℕ) → Edge (system B) b a 1 → a ≤ b
-      back b e =
-          elim (decLt b a) [
-            | yes l ↦ absurd (omega (arith, edge-distance-is (system B) b a 1 e, distance-later b a l))
-            | no l ↦ omega arith
-          ]
-
-  waits-test : WaitsMet B fin a p → waitsTest B fin p a ≡ true
-  unfolding waitsTest
-  waits-test w = all-of (λ b. metTest B fin p b a) (itemCount B) (λ b lb. met-of B fin p b a (λ t. one b (test-edge B F b a lb la t)))
-    where
-      before : (b k : ℕ) → p ≡ k → Edge (system B) b a 1 → k ≤ fin b
-      before b zero s e = omega arith
-      before b (suc r) s e = w .pass-before b r e s
-
-      one : (b : ℕ) → Edge (system B) b a (distance b a) → (b < a → p < fin b) × (a ≤ b → p ≤ fin b)
-      one b e = (
-        λ l. w .same-pass b (subst (λ (d : ℕ). Edge (system B) b a d) (distance-later b a l) e),
-        λ l. before b p refl (subst (λ (d : ℕ). Edge (system B) b a d) (distance-next b a l) e),
-      )
-
-pub waits-decided : (B : Body) → Fits B → B .regions ≤ 128 → (fin : ℕ → ℕ) (a p : ℕ) → a < itemCount B → (waitsTest B fin p a ≡ true) ↔ WaitsMet B fin a p
-waits-decided B F few fin a p la = (test-waits B F few fin a p la, waits-test B F few fin a p la)
-
--- a start, in a pass that the item has: every instance that it waits for is made, so the rule of a
--- start asks for their finishes
-pub rule-waits : (B : Body) → Fits B → (s : State) (a : ℕ) → StartRule (system B) s a → WaitsMet B (s .finished) a (s .started a)
-rule-waits B F s a r =
-    record {
-      same-pass = λ b e. finished-rule (system B) (waits-made B F) s a b 0 (s .started a) r e (omega arith);
-      pass-before = λ b p e h. finished-rule (system B) (waits-made B F) s a b 1 p r e (omega arith);
-    }
-
-pub waits-rule : (B : Body) (s : State) (a : ℕ) → a < itemCount B → s .finished a < itemPasses B a → s .started a ≡ s .finished a →
-    WaitsMet B (s .finished) a (s .started a) → StartRule (system B) s a
-waits-rule B s a l m i w =
-    record { in-range = l; left = m; idle = i; same-pass = λ b e. inl (w .same-pass b e); pass-before = λ b p e h. inl (w .pass-before b p e h) }

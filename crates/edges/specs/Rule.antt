@@ -1,5 +1,5 @@
--- All edges of a body's items in order, and the waits of one item, by the rule of the crate unroll (paper 01, "Edges", "Steps").
-use Prim.Native.Nat.{ℕ, suc, _<_}
+-- All edges of a body's items in order, by the rule of the crate unroll (paper 01, "Edges").
+use Prim.Native.Nat.{ℕ, _<_}
 use mathlib.Core.Path.{_≡_}
 use mathlib.Core.Logic.{_⊎_, _↔_}
 use mathlib.Core.List.{List, List·Memᴰ as In}
@@ -21,12 +21,3 @@ module _ (B : Body) where
   pub record AllEdges (l : List Triple) : Type 0 where
     pub exactly : (a b d : ℕ) → In (a, b, d) l ↔ Edge (system B) a b d
     pub ordered : (i j : ℕ) → i < j → j < length l → Ahead (getD l i (0, 0, 0)) (getD l j (0, 0, 0))
-
-  -- the finished passes of the items meet every wait of item a before its pass p: every edge into a
-  -- at distance 0 has its source finished in pass p, and every one at distance 1 in the pass
-  -- before, if there is one. In a pass that a has, all these instances are made (body, Meaning
-  -- .waits-made), so that this is the rule of a start (unroll, StartRule), where a wait for one
-  -- that is not made counts as met
-  pub record WaitsMet (finished : ℕ → ℕ) (a p : ℕ) : Type 0 where
-    pub same-pass : (b : ℕ) → Edge (system B) b a 0 → p < finished b
-    pub pass-before : (b r : ℕ) → Edge (system B) b a 1 → p ≡ suc r → r < finished b

@@ -1,9 +1,8 @@
--- Whether an edge stands, and whether waits are met, as tests of numbers. The crates above go by them; `proofs/` shows that they are the
--- rule of the crate unroll.
+-- Whether an edge stands, as a test of numbers. The crates above go by it; `proofs/` shows that it is the rule of the crate unroll.
 use Prim.Native.Nat.{ℕ, _+_, _-_}
 use mathlib.Core.Bool.{Bool, cond, not, _&&_, _||_}
 use lib.Dec.{eqb, ltb, leb}
-use Rattle.finite.specs.Below.{allBelow, anyBelow}
+use Rattle.finite.specs.Below.{anyBelow}
 use Rattle.body.specs.Body.{Body}
 use Rattle.body.specs.Items.{kindOf, itemRank, itemCount, itemAt}
 use Rattle.edges.specs.Touch.{touchOn}
@@ -44,10 +43,3 @@ module _ (B : Body) where
   -- an edge from a to b: by the item itself, a slot or a copy
   unfoldable pub edgeTest : ℕ → ℕ → Bool
   edgeTest a b = eqb a b || (paired a b || copyEdge a b)
-
-  -- item b has finished as many passes, fin b, as item a needs before its pass p, where there is an edge from b to a
-  unfoldable pub metTest : (ℕ → ℕ) → ℕ → ℕ → ℕ → Bool
-  metTest fin p b a = not (edgeTest b a) || cond (ltb b a) (ltb p (fin b)) (leb p (fin b))
-
-  unfoldable pub waitsTest : (ℕ → ℕ) → ℕ → ℕ → Bool
-  waitsTest fin p a = allBelow (itemCount B) (λ b. metTest fin p b a)

@@ -3,11 +3,11 @@ use Prim.Native.Nat.{ℕ, _≤_, _<_}
 use mathlib.Core.Path.{_≡_, refl, sym, _∙_, ap, subst}
 use mathlib.Core.Bool.{Bool, true, false, _&&_}
 use mathlib.Core.Logic.{_↔_, _⊎_, inl, inr}
-use mathlib.Core.List.{List, _++_, List·Memᴰ as In}
+use mathlib.Core.List.{List, List·Memᴰ as In}
 use native.Mathlib.Decide.{ℕ-discrete, decLt}
 use native.Mathlib.Omega.{arith}
 use borrow.Author.Tests.{eqb-true, eq-eqb, leb-true, le-leb}
-use lib.Dec.{eqb, leb}
+use lib.Dec.{leb}
 use lib.ListN.{length, getD, take, drop, List·getD-append}
 use lib.Seq.{take-at}
 use Rattle.finite.proofs.Below.{count-le}
@@ -26,7 +26,7 @@ use Rattle.steps.specs.Calls.{start, lent, isAccepted}
 use Rattle.steps.specs.Ready.{readyItems, ReadyAnswer}
 use Rattle.steps.proofs.Accepting.{Clear, formedState, start-clear, start-turn}
 use Rattle.steps.proofs.Refusals.{is-short, none-short, not-short}
-use Rattle.taskiter.specs.Demands.{Short, Ready, ReadyGiven}
+use Rattle.taskiter.specs.Demands.{Short, ReadyGiven}
 use Rattle.taskiter.proofs.Readiness.{ready-clear, clear-ready}
 use Rattle.taskiter.proofs.Parts.{length-behind, getD-behind}
 use Rattle.taskiter.proofs.Giving.{refusal-tests}
