@@ -1,7 +1,7 @@
 -- Laws of range, tabulate, replicate, gather and flatMap. Those that end in -none, -more and -done
 -- are a loop's that fills a list: before its first turn, over a turn, and after its last.
 use Prim.Native.Nat.{ℕ, zero, suc, _+_, _≤_, _<_}
-use mathlib.Core.Path.{_≡_, refl, sym, _∙_, ap}
+use mathlib.Core.Path.{_≡_, refl, sym, _∙_, ap, ap₂}
 use mathlib.Core.Bool.{Bool, true, false, cond}
 use mathlib.Core.Logic.{⊎-elim}
 use mathlib.Core.List.{List, [], _∷_, _++_, flatMap, append-nil, append-assoc}
@@ -124,6 +124,11 @@ module _ {X : Type 0} where
 
   pub gather-done : (p : ℕ → Bool) (f : ℕ → X) (n i : ℕ) (xs : List X) → xs ≡ gather i p f → n ≤ i → i ≤ n → xs ≡ gather n p f
   gather-done p f n i xs h a b = let e : n ≡ i = omega arith in rw e h
+
+  pub gather-ext : (n : ℕ) (p q : ℕ → Bool) (f : ℕ → X) → ((k : ℕ) → k < n → p k ≡ q k) → gather n p f ≡ gather n q f
+  unfolding gather
+  gather-ext zero p q f h = refl
+  gather-ext (suc n) p q f h = ap₂ (λ l b. l ++ cond b (f n ∷ []) []) (gather-ext n p q f (λ k l. h k (omega arith))) (h n (omega arith))
 
   length-one : (b : Bool) (v : X) → length (cond b (v ∷ []) []) ≡ cond b 1 0
   length-one true v = refl

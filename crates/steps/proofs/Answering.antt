@@ -16,7 +16,7 @@ module _ (P C W : List ℕ) where
   abbrev pub shortTest : Bool
   shortTest = ltb (length P) planWords || (ltb (length C) countWords || ltb (length W) valueWords)
 
-  short-slices : shortTest ≡ true → longSlices P C W ≡ false
+  pub short-slices : shortTest ≡ true → longSlices P C W ≡ false
   short-slices h = go (leb planWords (length P)) (leb countWords (length C)) (leb valueWords (length W)) refl refl refl
     where
       go : (x y z : Bool) → leb planWords (length P) ≡ x → leb countWords (length C) ≡ y → leb valueWords (length W) ≡ z → (x && (y && z)) ≡ false

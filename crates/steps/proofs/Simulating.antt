@@ -54,7 +54,7 @@ pub record Tied (plan : List ℕ) (s : Lent) (σ : State) : Type 0 where
   pub agree : Agree (system (planBody plan)) (stateOf (s .counts) (s .values)) σ
 
 -- an item that runs has the pass
-formed-running : (passes : ℕ → ℕ) (s : State) (a : ℕ) → s .started a ≡ suc (s .finished a) → CountFormed (passes a) s a → s .finished a < passes a
+pub formed-running : (passes : ℕ → ℕ) (s : State) (a : ℕ) → s .started a ≡ suc (s .finished a) → CountFormed (passes a) s a → s .finished a < passes a
 formed-running passes s a r (l, inl e) = absurd (omega arith)
 formed-running passes s a r (l, inr (e, k)) = k
 

@@ -35,7 +35,7 @@ use Rattle.steps.proofs.Accepting.{long-slices, Clear, open-short, open-unchang
 use Rattle.steps.proofs.Accepting.{start-turn, start-rule, finish-clear, finish-can, result-clear, result-complete, every-short, every-unchanged}
 use Rattle.steps.proofs.Made.{start-word, start-counts, start-values}
 use Rattle.taskiter.specs.Demands.{FitTold, TextRead, PlanReady, Steps, Demand1, Demand2, stepsOf, AtEnd, InAnyOrder, Opened, Demand3, Demands}
-use Rattle.taskiter.proofs.Freshness.{all-fresh}
+use Rattle.taskiter.proofs.Freshness.{all-fresh, stays-fresh}
 use Rattle.taskiter.proofs.AnyOrder.{in-any-order}
 use Rattle.taskiter.proofs.Unread.{unread}
 use Rattle.taskiter.proofs.Means.{mean-words}
@@ -155,6 +155,7 @@ module _ (plan counts values : List ℕ) (words : (i : ℕ) → getD plan i 0 �
           λ h. let k = result-clear plan counts values g h in let m = result-complete plan counts values k g .0 h in (clear-ready plan counts values words k, m .0, m .1),
           λ h. result-complete plan counts values (ready-clear plan counts values (h .0)) g .1 (h .1, h .2),
         );
+        stays-fresh = stays-fresh plan counts values;
         numbers = numbers plan counts values words;
         opened = open-made plan counts values;
         started = λ a h. record { word = start-word plan counts values a h; counted = start-counts plan counts values a h; held = start-values plan counts values a h };

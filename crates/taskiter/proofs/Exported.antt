@@ -2,24 +2,30 @@
 -- is the lent plan, C and W the counts and values.
 use Prim.Native.Nat.{ℕ, _*_, _≤_, _<_}
 use mathlib.Core.Path.{_≡_, refl, sym, _∙_, ap}
-use mathlib.Core.Bool.{Bool, true, false, cond, _&&_, and-true as true-behind}
+use mathlib.Core.Bool.{Bool, true, false, cond, _&&_, _||_, and-false, and-true as true-behind}
+use mathlib.Core.Logic.{_⊎_, inl, inr}
 use mathlib.Core.List.{List, [], _++_, append-assoc, flatMap}
 use native.Mathlib.Decide.{decLt}
 use native.Mathlib.Omega.{arith}
-use borrow.Author.Tests.{ne-eqb, le-leb, lt-leb, leb-true}
+use borrow.Author.Tests.{ne-eqb, le-leb, lt-leb, leb-true, ltb-true, ltb-false}
 use lib.Dec.{eqb, ltb, leb}
 use lib.ListN.{length, take, drop, take-append-drop}
 use lib.Seq.{take-all, length-take-le, drop-append-le}
-use Rattle.finite.proofs.Tests.{and-true, not-both}
+use Rattle.finite.specs.Lists.{gather}
+use Rattle.finite.specs.Put.{Put}
+use Rattle.finite.proofs.Lists.{gather-ext}
+use Rattle.finite.proofs.Tests.{and-true, or-cases, not-both}
 use Rattle.body.specs.Items.{itemCount, totalSteps}
 use Rattle.plan.specs.Sizes.{maxItems, edgeWords, countWords, valueWords}
-use Rattle.plan.specs.Layout.{planWords}
+use Rattle.plan.specs.Layout.{planWords, bodyOf}
 use Rattle.graph.specs.declared.Number.{Number}
 use Rattle.graph.specs.Table.{tableOf, Graph}
 use Rattle.graph.specs.Answers.{refusalOf, longPlan, formedPlan, planBody, isItem, three, ItemsAnswer, EdgesAnswer, TotalAnswer}
-use Rattle.steps.specs.Answers.{Left, formedCounts, longSlices, callRefusal, refused, openOf, startOf, finishOf, resultOf}
-use Rattle.steps.specs.Calls.{lent, start, finish, result, call}
-use Rattle.steps.proofs.Accepting.{refusal-none}
+use Rattle.steps.specs.Answers.{Left, longSlices, callRefusal, refused, openOf, startOf, finishOf, resultOf}
+use Rattle.steps.specs.Calls.{lent, start, finish, result, call, isAccepted}
+use Rattle.steps.specs.Ready.{readyItems, ReadyAnswer}
+use Rattle.steps.proofs.Accepting.{formedState, refusal-none}
+use Rattle.steps.proofs.Answering.{shortTest, short-slices}
 use Rattle.steps.proofs.Running.{cut-again, call-cut}
 use Rattle.calls.specs.declared.Entry.{Entry}
 use Rattle.calls.specs.Doors.{ByPlan, ByState}
@@ -140,7 +146,7 @@ module _ (P C W : List ℕ) where
     module _ (n : r .refusal ≡ 0 → ⊥) where
       call-refused : (t : Bool) (x : Left) → refused P C W (r .refusal) ≡ cond (eqb (callRefusal P C W t) 0) x (refused P C W (callRefusal P C W t))
       call-refused t x =
-          sym (rw (number-apart (longSlices P C W) (formedPlan P && formedCounts P C W) t (λ z. n (B .refusal ∙ z)), ← B .refusal, ne-eqb (r .refusal) 0 n))
+          sym (rw (number-apart (longSlices P C W) (formedPlan P && formedState P C W) t (λ z. n (B .refusal ∙ z)), ← B .refusal, ne-eqb (r .refusal) 0 n))
 
       start-refused : (a : ℕ) → refused P C W (r .refusal) ≡ startOf P C W a
       unfolding startOf
@@ -165,7 +171,7 @@ module _ (P C W : List ℕ) where
 
       pub values-long : valueWords ≤ length W
       values-long =
-          let s = refusal-none (longSlices P C W) (formedPlan P && formedCounts P C []) true (sym (B .refusal) ∙ z) .0 in
+          let s = refusal-none (longSlices P C W) (formedPlan P && formedState P C []) true (sym (B .refusal) ∙ z) .0 in
           leb-true valueWords (length W) (and-true (leb countWords (length C)) (leb valueWords (length W)) (and-true (longPlan P) (leb countWords (length C) && leb valueWords (length W)) s .1) .1)
 
       start-passed : (a : ℕ) (x : Left) → x ≡ startOf (take planWords P) C W a → x ≡ startOf P C W a
@@ -186,3 +192,48 @@ module _ (P C W : List ℕ) where
 
       pub result-passed : (g : ℕ) (x : Left) → x ≡ resultOf (take planWords P) C W g → x ≡ resultOf P C W g
       result-passed g x e = e ∙ call-cut P state-room (lent C W) (result g)
+
+-- the items that are ready
+module _ (P C W I : List ℕ) where
+  pub ready-short : (q : Number) → (shortTest P C W || ltb (length I) maxItems) ≡ true → q ≡ record { refusal = 11; number = 0 } → ReadyAnswer P C W I q I
+  ready-short q h e =
+      record {
+        refusal = ap (λ (x : Number). x .refusal) e ∙ rw (too-short (or-cases (shortTest P C W) (ltb (length I) maxItems) h));
+        listed = λ z. absurd (let y : _≡_ {A = ℕ} 11 0 = sym (ap (λ (x : Number). x .refusal) e) ∙ z in omega arith);
+        refused = λ z. (ap (λ (x : Number). x .number) e, refl);
+      }
+    where
+      too-short : (shortTest P C W ≡ true) ⊎ (ltb (length I) maxItems ≡ true) → (longSlices P C W && leb maxItems (length I)) ≡ false
+      too-short (inl t) = rw (short-slices P C W t)
+      too-short (inr t) = rw (lt-leb maxItems (length I) (ltb-true (length I) maxItems t)) (and-false (longSlices P C W))
+
+  -- a list of calls that are answered alike
+  ready-cut : planWords ≤ length P → readyItems (take planWords P) C W ≡ readyItems P C W
+  unfolding readyItems
+  ready-cut l =
+      ap (λ (w : List ℕ). gather (itemCount (bodyOf w)) (λ a. isAccepted (take planWords P) (lent C W) (start a)) (λ a. a)) (cut-again P l)
+      ∙ gather-ext (itemCount (planBody P)) (λ a. isAccepted (take planWords P) (lent C W) (start a)) (λ a. isAccepted P (lent C W) (start a)) (λ a. a)
+      (λ a la. ap (λ (x : Left). eqb (x .refusal) 0) (call-cut P l (lent C W) (start a)))
+
+  module _ {table : List ℕ} (r : Entry) (table′ : List ℕ) (B : ByState P C (leb valueWords (length W)) table r table′) (room : ltb (length I) maxItems ≡ false) where
+    ready-refusal : r .refusal ≡ refusalOf (longSlices P C W && leb maxItems (length I)) (formedPlan P && formedState P C W) true
+    ready-refusal = B .refusal ∙ sym (rw (le-leb maxItems (length I) (ltb-false (length I) maxItems room), true-behind (longSlices P C W)))
+
+    pub ready-refused : (q : Number) → (r .refusal ≡ 0 → ⊥) → q ≡ record { refusal = r .refusal; number = 0 } → ReadyAnswer P C W I q I
+    ready-refused q n e =
+        record {
+          refusal = ap (λ (x : Number). x .refusal) e ∙ ready-refusal;
+          listed = λ z. absurd (n (sym (ap (λ (x : Number). x .refusal) e) ∙ z));
+          refused = λ z. (ap (λ (x : Number). x .number) e, refl);
+        }
+
+    pub ready-listed : r .refusal ≡ 0 → (k m : ℕ) (I′ : List ℕ) → ((X : List ℕ) → valueWords ≤ length X → Put (readyItems (take planWords P) C X) I m I′) → k ≡ m →
+        ReadyAnswer P C W I (record { refusal = 0; number = k }) I′
+    ready-listed z k m I′ put e =
+        let p = put W (values-long P C W r table′ B z) in
+        let c = ready-cut (state-room P C W r table′ B z) in
+        record {
+          refusal = sym z ∙ ready-refusal;
+          listed = λ h. (e ∙ (p .count ∙ ap length c), p .begins ∙ ap (λ (x : List ℕ). x ++ drop (length x) I) c);
+          refused = λ n. absurd (n refl);
+        }

@@ -256,6 +256,8 @@ pub record Steps (plan counts values : List ℕ) : Type 0 where
   pub finishes : (a : ℕ) → (finishOf plan counts values a .refusal ≡ 0) ↔ (Ready plan counts values × CanFinish (system (planBody plan)) (stateOf counts values) a)
   pub results : (g : ℕ) → (resultOf plan counts values g .refusal ≡ 0)
       ↔ (Ready plan counts values × (g < planBody plan .regions) × Complete (planBody plan) (stateOf counts values))
+  -- fresh counts stay so, whichever call is made
+  pub stays-fresh : AllFresh (planBody plan) counts values → (c : Call) → let r = call plan (lent counts values) c in AllFresh (planBody plan) (r .counts) (r .values)
   pub numbers : Numbers plan counts values
   -- what an accepted call leaves
   pub opened : openOf plan counts values .refusal ≡ 0 → OpenMade (planBody plan) counts values (openOf plan counts values)
@@ -267,7 +269,7 @@ pub record Steps (plan counts values : List ℕ) : Type 0 where
 -- is changed; accepted, the items whose start is accepted, rising, and how many; what lies behind stays
 pub record ReadyGiven (plan counts values items : List ℕ) (r : Number) (items′ : List ℕ) : Type 0 where
   pub refusal-11 : (r .refusal ≡ 11) ↔ (Short plan counts values ⊎ (length items < maxItems))
-  pub refusal-12 : (r .refusal ≡ 12) ↔ ((Short plan counts values ⊎ (length items < maxItems) → ⊥) × (Ready plan counts values → ⊥))
+  pub refusal-12 : (r .refusal ≡ 12) ↔ (((Short plan counts values ⊎ (length items < maxItems)) → ⊥) × (Ready plan counts values → ⊥))
   pub refusal-0 : (r .refusal ≡ 0) ↔ (Ready plan counts values × (maxItems ≤ length items))
   pub refused : (r .refusal ≡ 0 → ⊥) → (r .number ≡ 0) × (items′ ≡ items)
   pub exactly : r .refusal ≡ 0 → (a : ℕ) → In a (take (r .number) items′) ↔ (startOf plan counts values a .refusal ≡ 0)

@@ -1,5 +1,5 @@
 // The runtime, as a C host calls it: reading, writing, opening, start, finish and result on lent
-// slices, lists of these, and the graph besides (include/taskiter.h). A call looks at the plan and
+// slices, lists of these, the items that are ready, and the graph besides (include/taskiter.h). A call looks at the plan and
 // the state that it is lent, and keeps nothing between calls.
 ghost use mathlib.Core.Path.{_≡_};
 ghost use mathlib.Core.Bool.{cond};
@@ -7,6 +7,7 @@ ghost use Rattle.reader.specs.Answer.{Reads};
 ghost use Rattle.graph.specs.Answers.{ItemsAnswer, EdgesAnswer, TotalAnswer};
 ghost use Rattle.steps.specs.Answers.{openOf, startOf, finishOf, resultOf};
 ghost use Rattle.steps.specs.Calls.{start, finish, lent, call};
+ghost use Rattle.steps.specs.Ready.{ReadyAnswer};
 ghost use Rattle.writer.specs.Answer.{WriteAnswer};
 ghost use Rattle.calls.specs.Told.{told, toldOpening};
 ghost use Rattle.taskiter.specs.Played.{callOf, Played};
@@ -19,6 +20,7 @@ use calls::drawing::list_edges;
 use calls::finishes::finish_clear;
 use calls::no_word;
 use calls::openings::open_clear;
+use calls::ready::ready_clear;
 use calls::results::result_clear;
 use calls::starts::start_clear;
 use calls::totals::total_steps;
@@ -102,9 +104,9 @@ pub extern "C" fn taskiter_write(plan: &[u64], text: &mut [u8]) -> Number
 // The version of this interface: TASKITER_VERSION of the header.
 #[no_mangle]
 pub extern "C" fn taskiter_version() -> u64
-    ensures { λ r. ⌜ r ≡ 4 ⌝ }
+    ensures { λ r. ⌜ r ≡ 5 ⌝ }
 {
-    4
+    5
 }
 
 // Opens a lent state for a plan; answers the refusal, 0 if there is none.
@@ -217,6 +219,34 @@ pub extern "C" fn taskiter_result(
         values,
         region,
     )
+}
+
+// The items whose start is accepted now: their numbers, rising, in the lent slice, and how many they
+// are.
+#[no_mangle]
+pub extern "C" fn taskiter_ready(
+    plan: &[u64],
+    counts: &[Count],
+    values: &[u64],
+    items: &mut [u16],
+) -> Number
+    ensures { λ r. ⌜
+        ReadyAnswer (now (plan .entry)) (now (counts .entry)) (now (values .entry)) (now (items .entry)) r (now (items .exit))
+        ⌝ }
+{
+    if is_short(plan.len(), counts.len(), values.len()) | (items.len() < MAX_ITEMS) {
+        return no_number(11);
+    }
+    let mut table = [0u16; MAX_ITEMS];
+    let entry = enter_state(plan, counts, VALUES <= values.len(), &mut table);
+    if entry.refusal != 0 {
+        return no_number(entry.refusal);
+    }
+    let number = ready_clear(&plan[..PLAN_WORDS], &table, entry.items, counts, items);
+    Number {
+        refusal: 0,
+        number: as_word(number),
+    }
 }
 
 // The call that a word says: 3 × its number, and 0 for a start, 1 for a finish, 2 for a result.
