@@ -1,7 +1,7 @@
 -- What a call answers behind its door, by the tests that are left: w, C and W are the words of the
 -- plan, the counts and the values.
 use Prim.Native.Nat.{ℕ, _+_, _-_, _*_, _≤_, _<_}
-use mathlib.Core.Path.{_≡_, refl, sym, _∙_, ap, fun-ext}
+use mathlib.Core.Path.{_≡_, refl, sym, _∙_, ap}
 use mathlib.Core.Bool.{Bool, true, false, cond, not, _&&_, _||_}
 use mathlib.Core.Logic.{⊎-elim}
 use mathlib.Core.List.{List, []}
@@ -10,13 +10,13 @@ use native.Mathlib.Numerals.{add-one}
 use native.Mathlib.Omega.{arith}
 use borrow.Author.Tests.{eqb-true, ltb-true, leb-true, eq-eqb, ne-eqb, lt-ltb, le-ltb, le-leb, not-true, not-false}
 use lib.Dec.{eqb, ltb, leb}
-use lib.ListN.{length, getD, set, take, drop, length-drop}
-use lib.Seq.{take-all, getD-drop}
+use lib.ListN.{length, getD, set, take}
 use Rattle.finite.specs.Below.{allBelow, sumBelow}
 use Rattle.finite.specs.Lists.{mem}
 use Rattle.finite.specs.Update.{replaced}
 use Rattle.finite.proofs.Tests.{and-true, or-cases}
 use Rattle.finite.proofs.Below.{all-of, all-ext, sum-ext}
+use Rattle.finite.proofs.Within.{within}
 use Rattle.unroll.specs.Sequential.{wordOn}
 use Rattle.unroll.specs.AnyOrder.{allSteps}
 use Rattle.body.specs.Body.{Body}
@@ -24,34 +24,23 @@ use Rattle.body.specs.Items.{itemCount, itemPasses, totalSteps}
 use Rattle.body.specs.Transfers.{lastBefore}
 use Rattle.body.specs.Places.{initial, system, resultFrom, resultOf as regionResult}
 use Rattle.body.proofs.WrappedCount.{all-steps}
-use Rattle.edges.specs.Tests.{waitsTest}
 use Rattle.plan.specs.Limits.{maxPasses}
-use Rattle.plan.specs.Sizes.{countWords, valueWords, firstFinished, firstHeld}
+use Rattle.plan.specs.Sizes.{countWords, valueWords, firstFinished, firstUnmet, firstHeld}
 use Rattle.plan.specs.Layout.{planWords, bodyOf, passesOf, regionsOf}
 use Rattle.plan.specs.Code.{codeFewer}
-use Rattle.plan.specs.Counts.{topBit}
 use Rattle.graph.specs.Table.{Graph}
 use Rattle.graph.specs.Answers.{refusalOf, planBody, isItem}
-use Rattle.graph.proofs.Lookup.{fewer-few, code-passes}
-use Rattle.steps.specs.State.{stateOf}
-use Rattle.steps.specs.Answers.{Left, countOk, isComplete, startTests, finishTests, formedCounts, longSlices, callRefusal, refused}
-use Rattle.steps.specs.Answers.{started, startOf, finished, finishOf, shown, resultOf, isCopy, isSlot, isHeld, openOf}
+use Rattle.graph.proofs.Lookup.{passes-most, own-passes}
+use Rattle.steps.specs.State.{stateOf, doneBy, unmetBy}
+use Rattle.steps.specs.Answers.{Left, countOk, isComplete, startTests, finishTests, formedCounts, formedNumbers, longSlices, callRefusal, refused}
+use Rattle.steps.specs.Answers.{started, startOf, finished, finishedCounts, finishOf, shown, resultOf, openCount, isCopy, isSlot, isHeld, openOf}
 use Rattle.values.specs.Items.{Formed, Found}
-use Rattle.values.proofs.Plans.{passes-few, plan-whole}
+use Rattle.values.proofs.Plans.{plan-whole}
 use Rattle.values.proofs.Finding.{whole-plan}
 use Rattle.calls.specs.declared.Answer.{Answer}
 use Rattle.calls.specs.Told.{told}
 use Rattle.calls.specs.Doors.{Clear}
-use Rattle.calls.proofs.Counting.{countsBelow}
-
--- the finished passes, as they are lent
-abbrev lent-finished : List ℕ → List ℕ
-lent-finished C = take (length C - firstFinished) (drop firstFinished C)
-
-lent-at : (C : List ℕ) (b : ℕ) → getD (lent-finished C) b 0 ≡ getD C (firstFinished + b) 0
-lent-at C b =
-    ap (λ (l : List ℕ). getD l b 0) (take-all (length C - firstFinished) (drop firstFinished C) (omega (arith, length-drop firstFinished C)))
-    ∙ getD-drop firstFinished C b 0
+use Rattle.calls.proofs.Counting.{countsBelow, counts-opened}
 
 -- a result does not depend on the counts
 pub result-apart : (B : Body) (C D W : List ℕ) (g : ℕ) → regionResult B (stateOf C W) g ≡ regionResult B (stateOf D W) g
@@ -62,40 +51,30 @@ result-apart B C D W g = go (lastBefore B (B .tasks) g)
     go none = refl
     go (some j) = refl
 
+-- nor do the counts that a finish leaves depend on the values
+finish-apart : (w C U W : List ℕ) (a : ℕ) → finishedCounts w C U a ≡ finishedCounts w C W a
+unfolding finishedCounts
+finish-apart w C U W a = refl
+
 -- an answer that refuses
 pub told-refused : (P C W : List ℕ) (n : ℕ) (r : Answer) {x : Left} → r ≡ record { refusal = n; word = 0 } → refused P C W n ≡ x → told r C W ≡ x
 told-refused P C W n r e h = ap (λ (a : Answer). told a C W) e ∙ h
 
--- an item's start is counted and its word held; its finish is counted, and the word held goes to
--- its places
+-- an item's start is counted and its word held
 module _ (w : List ℕ) (a code : ℕ) (F : Found w a code) (C W : List ℕ) where
   pub started-is : (word : ℕ) → word ≡ wordOn (system (bodyOf w)) a (λ x. getD W x 0) →
       _≡_ {A = Left} (told (record { refusal = 0; word = word }) (set C a (getD C a 0 + 1)) (set W (firstHeld + a) word)) (started w C W a)
   started-is word e = rw (whole-plan w a code F, add-one, e)
 
-  pub finished-is : (left : List ℕ) → left ≡ replaced (λ x. mem x (system (bodyOf w) .writes a)) (λ x. getD W (firstHeld + a) 0) W →
-      _≡_ {A = Left} (told (record { refusal = 0; word = getD W (firstHeld + a) 0 }) (set C (firstFinished + a) (getD C (firstFinished + a) 0 + 1)) left) (finished w C W a)
-  finished-is left e = rw (whole-plan w a code F, add-one, e)
-
 module _ (w table : List ℕ) (n : ℕ) (G : Graph w table n) where
   pub graph-formed : Formed w
   graph-formed = record { long = G .long; formed = G .formed }
 
-  whole : take planWords w ≡ w
+  pub whole : take planWords w ≡ w
   whole = plan-whole w graph-formed
-
-  pub passes-most : passesOf w ≤ maxPasses
-  passes-most = passes-few w (G .formed)
 
   pub found-at : (a code : ℕ) → a < n → code ≡ getD table a 0 → Found w a code
   found-at a code l e = record { plan = graph-formed; below = omega (arith, G .count); coded = e ∙ G .each a l }
-
-  pub codes-few : (a : ℕ) → a < n → codeFewer (getD table a 0) ≤ 1
-  codes-few a l = fewer-few w table n G a l (getD table a 0) refl
-
-  -- the passes of an item, by its code
-  pub own-passes : (passes : ℕ) → passes ≡ passesOf w → (a : ℕ) → a < n → (own : ℕ) → own ≡ passes - codeFewer (getD table a 0) → own ≡ itemPasses (bodyOf w) a
-  own-passes passes p a l own e = e ∙ (ap (λ (k : ℕ). k - codeFewer (getD table a 0)) p ∙ code-passes w table n G a l (getD table a 0) refl)
 
   -- two steps for each of them
   pub total-is : (passes : ℕ) → passes ≡ passesOf w → (steps : ℕ) → steps ≡ sumBelow n (λ a. 2 * (passes - codeFewer (getD table a 0))) → steps ≡ totalSteps (bodyOf w)
@@ -103,7 +82,7 @@ module _ (w table : List ℕ) (n : ℕ) (G : Graph w table n) where
   total-is passes p steps e =
       e
       ∙ (sum-ext n (λ a. 2 * (passes - codeFewer (getD table a 0))) (λ a. 2 * itemPasses (bodyOf w) a)
-      (λ a l. ap (λ (k : ℕ). 2 * k) (own-passes passes p a l (passes - codeFewer (getD table a 0)) refl))
+      (λ a l. ap (λ (k : ℕ). 2 * k) (own-passes w table n G passes p a l (passes - codeFewer (getD table a 0)) refl))
       ∙ (ap (λ (m : ℕ). sumBelow m (λ a. 2 * itemPasses (bodyOf w) a)) (G .count) ∙ all-steps (bodyOf w)))
 
   module _ (C W : List ℕ) (c : countWords ≤ length C) (v : valueWords ≤ length W) where
@@ -111,11 +90,11 @@ module _ (w table : List ℕ) (n : ℕ) (G : Graph w table n) where
     long = rw (le-leb planWords (length w) (omega (arith, G .long)), le-leb countWords (length C) c, le-leb valueWords (length W) v)
 
     -- an opening
-    pub open-made : (C′ W′ : List ℕ) → C′ ≡ replaced (countsBelow n) (λ i. 0) C →
+    pub open-made : (D C′ W′ : List ℕ) → D ≡ replaced (countsBelow n) (λ i. 0) C → C′ ≡ replaced (within firstUnmet n) (openCount (bodyOf w)) D →
         W′ ≡ replaced (λ x. isCopy (bodyOf w) x || (isSlot (bodyOf w) x || isHeld (bodyOf w) x)) (initial (bodyOf w)) W →
         _≡_ {A = Left} (record { refusal = 0; word = 0; counts = C′; values = W′ }) (openOf w C W)
     unfolding openOf
-    open-made C′ W′ e f = rw (long, whole, G .formed, e, f, G .count)
+    open-made D C′ W′ e d f = rw (long, whole, G .formed, counts-opened (bodyOf w) n (G .count) (G .most) C D C′ e d, f)
 
 module _ (w C table : List ℕ) (n : ℕ) (K : Clear w C table n) (W : List ℕ) (v : valueWords ≤ length W) where
   abbrev G : Graph w table n
@@ -125,18 +104,15 @@ module _ (w C table : List ℕ) (n : ℕ) (K : Clear w C table n) (W : List ℕ)
   formed-counts =
       rw (whole w table n G) (all-of (λ a. countOk (itemPasses (bodyOf w) a) (stateOf C W) a) (itemCount (bodyOf w)) (λ a l. K .counts-ok a (omega (arith, G .count))))
 
+  formed-numbers : formedNumbers w C W ≡ true
+  formed-numbers =
+      rw (whole w table n G)
+      (all-of (λ a. leb (unmetBy C a) (itemCount (bodyOf w))) (itemCount (bodyOf w))
+      (λ a l. rw (← G .count) (K .numbers-ok a (omega (arith, G .count)))))
+
   -- only the number is left to be tested
   call-is : (t : Bool) → callRefusal w C W t ≡ refusalOf true true t
-  call-is t = rw (long w table n G C W (K .room) v, formed-counts, whole w table n G, G .formed)
-
-  finished-few : (a : ℕ) → a < n → getD C (firstFinished + a) 0 ≤ maxPasses
-  finished-few a l =
-      let h = and-true (leb (getD C (firstFinished + a) 0) (itemPasses (bodyOf w) a)) _ (K .counts-ok a l) .0 in
-      omega (arith, leb-true (getD C (firstFinished + a) 0) (itemPasses (bodyOf w) a) h, passes-most w table n G)
-
-  -- what is asked of the counts before the waits are tested
-  pub lent-few : (a : ℕ) → a < n → getD C a 0 ≡ getD C (firstFinished + a) 0 → (getD C a 0 < topBit) × ((b : ℕ) → b < n → getD (lent-finished C) b 0 < topBit)
-  lent-few a l idle = (omega (arith, finished-few a l), λ b k. omega (arith, lent-at C b, finished-few b k))
+  call-is t = rw (long w table n G C W (K .room) v, formed-counts, formed-numbers, whole w table n G, G .formed)
 
   item-is : (item : ℕ) → isItem w item ≡ ltb item n
   item-is item = rw (whole w table n G, G .count)
@@ -158,7 +134,10 @@ module _ (w C table : List ℕ) (n : ℕ) (K : Clear w C table n) (W : List ℕ)
     item-below : a < n
     item-below = omega (arith, at)
 
-    start-tested : startOf w C W item ≡ cond (eqb (startTests (bodyOf w) (stateOf C W) a) 0) (started w C W a) (refused w C W (startTests (bodyOf w) (stateOf C W) a))
+    abbrev tests : ℕ
+    tests = startTests (bodyOf w) (stateOf C W) (unmetBy C a) a
+
+    start-tested : startOf w C W item ≡ cond (eqb tests 0) (started w C W a) (refused w C W tests)
     unfolding startOf
     start-tested = rw (call-is (isItem w item), item-is item, lt-ltb item n below, whole w table n G, ← at)
 
@@ -181,20 +160,15 @@ module _ (w C table : List ℕ) (n : ℕ) (K : Clear w C table n) (W : List ℕ)
         pub start-running : (getD C a 0 ≡ getD C (firstFinished + a) 0 → ⊥) → refused w C W 15 ≡ startOf w C W item
         start-running r = sym (start-tested ∙ rw (has-left, ne-eqb (getD C a 0) (getD C (firstFinished + a) 0) r))
 
-        -- the finished passes are lent from where they start
-        module _ (idle : getD C a 0 ≡ getD C (firstFinished + a) 0) (met : Bool)
-            (m : met ≡ waitsTest (bodyOf w) (λ b. getD (lent-finished C) b 0) (getD C a 0) a) where
-          met-is : met ≡ waitsTest (bodyOf w) (λ b. getD C (firstFinished + b) 0) (getD C a 0) a
-          met-is = m ∙ ap (λ (f : ℕ → ℕ). waitsTest (bodyOf w) f (getD C a 0) a) (fun-ext (lent-at C))
+        module _ (idle : getD C a 0 ≡ getD C (firstFinished + a) 0) where
+          tests-are : tests ≡ cond (eqb (unmetBy C a) 0) 0 16
+          tests-are = rw (has-left, eq-eqb (getD C a 0) (getD C (firstFinished + a) 0) idle)
 
-          tests-are : startTests (bodyOf w) (stateOf C W) a ≡ cond met 0 16
-          tests-are = rw (has-left, eq-eqb (getD C a 0) (getD C (firstFinished + a) 0) idle, ← met-is)
+          pub start-waiting : (unmetBy C a ≡ 0 → ⊥) → refused w C W 16 ≡ startOf w C W item
+          start-waiting h = sym (start-tested ∙ rw (tests-are, ne-eqb (unmetBy C a) 0 h))
 
-          pub start-waiting : not met ≡ true → refused w C W 16 ≡ startOf w C W item
-          start-waiting h = sym (start-tested ∙ rw (tests-are, not-true met h))
-
-          pub start-made : not met ≡ false → (x : Left) → x ≡ started w C W a → x ≡ startOf w C W item
-          start-made h x e = e ∙ sym (start-tested ∙ rw (tests-are, not-false met h))
+          pub start-made : unmetBy C a ≡ 0 → (x : Left) → x ≡ started w C W a → x ≡ startOf w C W item
+          start-made h x e = e ∙ sym (start-tested ∙ rw (tests-are, eq-eqb (unmetBy C a) 0 h))
 
           pub start-asks : (code : ℕ) → code ≡ getD table a 0 → Found w a code × (countWords ≤ length C) × (valueWords ≤ length W) × (getD C a 0 < maxPasses)
           start-asks code e = (found-at w table n G a code item-below e, K .room, v, omega (arith, has, passes-most w table n G))
@@ -204,8 +178,11 @@ module _ (w C table : List ℕ) (n : ℕ) (K : Clear w C table n) (W : List ℕ)
     finish-idle e = sym (finish-tested ∙ rw (eq-eqb (getD C a 0) (getD C (firstFinished + a) 0) e))
 
     module _ (runs : getD C a 0 ≡ getD C (firstFinished + a) 0 → ⊥) where
-      pub finish-made : (x : Left) → x ≡ finished w C W a → x ≡ finishOf w C W item
-      finish-made x e = e ∙ sym (finish-tested ∙ rw (ne-eqb (getD C a 0) (getD C (firstFinished + a) 0) runs))
+      pub finish-made : (C′ W′ : List ℕ) (word : ℕ) → C′ ≡ finishedCounts w C [] a → word ≡ getD W (firstHeld + a) 0 →
+          W′ ≡ replaced (λ x. mem x (system (bodyOf w) .writes a)) (λ x. getD W (firstHeld + a) 0) W →
+          _≡_ {A = Left} (record { refusal = 0; word = word; counts = C′; values = W′ }) (finishOf w C W item)
+      finish-made C′ W′ word c e f =
+          sym (finish-tested ∙ rw (ne-eqb (getD C a 0) (getD C (firstFinished + a) 0) runs, c ∙ finish-apart w C [] W a, e, f, whole w table n G))
 
       started-one : (s d p : ℕ) → (leb d p && (eqb s d || (eqb s (d + 1) && ltb d p))) ≡ true → (s ≡ d → ⊥) → d < p
       started-one s d p h k =
@@ -214,13 +191,16 @@ module _ (w C table : List ℕ) (n : ℕ) (K : Clear w C table n) (W : List ℕ)
           (λ e. ltb-true d p (and-true (eqb s (d + 1)) (ltb d p) e .1))
           (or-cases (eqb s d) (eqb s (d + 1) && ltb d p) (and-true (leb d p) (eqb s d || (eqb s (d + 1) && ltb d p)) h .1))
 
-      pub finish-asks : (code : ℕ) → code ≡ getD table a 0 → Found w a code × (countWords ≤ length C) × (valueWords ≤ length W) × (getD C (firstFinished + a) 0 < maxPasses)
-      finish-asks code e = (
-        found-at w table n G a code item-below e,
+      pub finish-asks : Graph w table n × (a < n) × (countWords ≤ length C) × (doneBy C a < maxPasses)
+      finish-asks = (
+        G,
+        item-below,
         K .room,
-        v,
         omega (arith, started-one (getD C a 0) (getD C (firstFinished + a) 0) (itemPasses (bodyOf w) a) (K .counts-ok a item-below) runs, passes-most w table n G),
       )
+
+      pub write-asks : (code : ℕ) → code ≡ getD table a 0 → Found w a code × (valueWords ≤ length W)
+      write-asks code e = (found-at w table n G a code item-below e, v)
 
   -- a result
   module _ (region : ℕ) (below : region < regionsOf w) (passes : ℕ) (p : passes ≡ passesOf w) (ok : Bool)

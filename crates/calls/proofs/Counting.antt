@@ -2,12 +2,12 @@
 -- loop's: before its first turn, over a turn, and after its last.
 use Prim.Native.Nat.{ℕ, _+_, _-_, _^_, _≤_, _<_}
 use mathlib.Core.Path.{_≡_, refl, sym, _∙_, ap, ap₂}
-use mathlib.Core.Bool.{Bool, true, false, _&&_, _||_}
+use mathlib.Core.Bool.{Bool, true, false, cond, _&&_, _||_}
 use mathlib.Core.Logic.{⊎-elim}
 use mathlib.Core.List.{List, []}
-use native.Mathlib.Decide.{ℕ-discrete}
+use native.Mathlib.Decide.{decLt, ℕ-discrete}
 use native.Mathlib.Omega.{arith}
-use borrow.Author.Tests.{ltb-true, leb-true, eqb-true, lt-ltb, le-leb, eq-eqb, ne-eqb}
+use borrow.Author.Tests.{ltb-true, leb-true, eqb-true, lt-ltb, le-ltb, le-leb, lt-leb, eq-eqb, ne-eqb}
 use lib.Bits.{bitOr}
 use lib.Dec.{eqb, ltb, leb}
 use lib.ListN.{length, getD, set}
@@ -16,15 +16,18 @@ use Rattle.finite.specs.Update.{replaced}
 use Rattle.finite.proofs.Tests.{test-ext, and-true, or-cases}
 use Rattle.finite.proofs.Below.{all-more}
 use Rattle.finite.proofs.Bitwise.{or-below, or-more}
-use Rattle.finite.proofs.Replaced.{replaced-set, replaced-where, replaced-nowhere}
+use Rattle.finite.proofs.Replaced.{replaced-set, replaced-where, replaced-nowhere, replaced-twice, replaced-ext}
+use Rattle.finite.proofs.Within.{within, ltb-none, ltb-next, within-none, within-next}
+use Rattle.body.specs.Body.{Body}
+use Rattle.body.specs.Items.{itemCount}
 use Rattle.plan.specs.Limits.{maxPasses}
-use Rattle.plan.specs.Sizes.{firstFinished}
+use Rattle.plan.specs.Sizes.{maxItems, firstFinished, firstUnmet}
 use Rattle.plan.specs.Code.{codeFewer}
 use Rattle.plan.specs.Counts.{topBit, surplusOf}
 use Rattle.plan.proofs.Surplus.{surplus-none}
-use Rattle.steps.specs.State.{stateOf}
-use Rattle.steps.specs.Answers.{countOk}
-use Rattle.values.proofs.Opening.{within, ltb-none, ltb-next, within-none, within-next, or-both}
+use Rattle.steps.specs.State.{stateOf, unmetBy}
+use Rattle.steps.specs.Answers.{countOk, isCount, openCount}
+use Rattle.values.proofs.Opening.{or-both}
 
 -- the counts of an item are in form exactly if the words that are made of them are small
 formed-words : (started finished own : ℕ) → started < 2 ^ 64 → finished < 2 ^ 64 → own ≤ maxPasses →
@@ -65,6 +68,19 @@ formed-words s f o ls lf lo = ap (λ (b : Bool). ltb (surplusOf s f) 2 && b) (or
         one-more : s ≡ f + 1 → f < o → small ≡ true
         one-more e l = words (omega arith) (omega arith) (omega arith)
 
+-- and a number is no more than `most` exactly if the word made of it is small
+number-word : (most number : ℕ) → most ≤ maxItems → number < 2 ^ 64 → ltb (bitOr number (surplusOf most number)) topBit ≡ leb number most
+number-word m x few l =
+    or-below 63 x (surplusOf m x)
+    ∙ elim (decLt m x) [
+      | yes k ↦ (
+          elim (decLt x topBit) [
+            | yes h ↦ rw (lt-leb x m k, lt-ltb x topBit h, le-ltb (surplusOf m x) topBit (omega arith))
+            | no h ↦ rw (lt-leb x m k, le-ltb x topBit (omega arith))
+          ])
+      | no k ↦ rw (le-leb x m (omega arith), lt-ltb x topBit (omega arith), lt-ltb (surplusOf m x) topBit (omega arith))
+    ]
+
 -- two tests of joined words
 join-both : (p : ℕ → Bool) (i apart beyond lead rest : ℕ) → (ltb apart 2 && ltb beyond topBit) ≡ allBelow i p → (ltb lead 2 && ltb rest topBit) ≡ p i →
     (ltb (bitOr apart lead) 2 && ltb (bitOr beyond rest) topBit) ≡ allBelow (i + 1) p
@@ -104,6 +120,18 @@ module _ (counts table : List ℕ) (passes : ℕ) where
       or-more 0 (λ a. eqb (getD counts (firstFinished + a) 0) (own-at a)) a missing left h
       (rw (e, o) (surplus-none (own-at a) (getD counts (firstFinished + a) 0) (omega arith) l))
 
+-- the numbers of unmet waits in the loop of `are_formed`
+module _ (counts : List ℕ) where
+  abbrev pub numbersTo : ℕ → ℕ → Bool
+  numbersTo most n = allBelow n (λ a. leb (unmetBy counts a) most)
+
+  pub numbers-more : (most n a above left : ℕ) → n ≤ maxItems → most ≡ n → getD counts (firstUnmet + a) 0 < 2 ^ 64 →
+      ltb above topBit ≡ numbersTo n a → left ≡ surplusOf most (getD counts (firstUnmet + a) 0) →
+      ltb (bitOr above (bitOr (getD counts (firstUnmet + a) 0) left)) topBit ≡ numbersTo n (a + 1)
+  numbers-more most n a above left few m l h e =
+      or-more 63 (λ a. leb (unmetBy counts a) n) a above (bitOr (getD counts (firstUnmet + a) 0) left) h
+      (rw (e, m) (number-word n (getD counts (firstUnmet + a) 0) few l))
+
 -- both counts of each item below a
 abbrev pub countsBelow : ℕ → ℕ → Bool
 countsBelow a i = ltb i a || within firstFinished a i
@@ -122,3 +150,32 @@ counts-more xs ys a h l =
 
 pub counts-done : (xs ys : List ℕ) (n a : ℕ) → ys ≡ replaced (countsBelow a) (λ i. 0) xs → n ≤ a → a ≤ n → ys ≡ replaced (countsBelow n) (λ i. 0) xs
 counts-done xs ys n a h k l = let e : n ≡ a = omega arith in rw e h
+
+-- a count of passes at the opening
+open-passes : (B : Body) (n i : ℕ) → n ≤ maxItems → countsBelow n i ≡ true → openCount B i ≡ 0
+unfolding openCount
+open-passes B n i few e =
+    let l : i < firstUnmet = ⊎-elim
+        (λ t. omega (arith, ltb-true i n t))
+        (λ t. omega (arith, ltb-true i (firstFinished + n) (and-true (leb firstFinished i) (ltb i (firstFinished + n)) t .1)))
+        (or-cases (ltb i n) (within firstFinished n i) e)
+    in
+    rw (lt-leb firstUnmet i l)
+
+-- the passes at 0, and then the numbers of unmet waits counted
+pub counts-opened : (B : Body) (n : ℕ) → n ≡ itemCount B → n ≤ maxItems → (xs ys zs : List ℕ) → ys ≡ replaced (countsBelow n) (λ i. 0) xs →
+    zs ≡ replaced (within firstUnmet n) (openCount B) ys → zs ≡ replaced (isCount B) (openCount B) xs
+counts-opened B n c few xs ys zs h k =
+    k
+    ∙ (ap (replaced (within firstUnmet n) (openCount B)) h
+    ∙ (replaced-twice (countsBelow n) (within firstUnmet n) (λ i. 0) (openCount B) xs
+    ∙ replaced-ext (λ i. within firstUnmet n i || countsBelow n i) (isCount B) (λ i. cond (within firstUnmet n i) (openCount B i) 0) (openCount B) xs
+    (λ i l. rw (← c) (each (ltb i n) (within firstFinished n i) (within firstUnmet n i) (getD xs i 0) (openCount B i) (open-passes B n i few)))))
+  where
+    each : (p q t : Bool) (x v : ℕ) → ((p || q) ≡ true → v ≡ 0) → cond (t || (p || q)) (cond t v 0) x ≡ cond (p || (q || t)) v x
+    each true q true x v z = refl
+    each true q false x v z = sym (z refl)
+    each false true true x v z = refl
+    each false true false x v z = sym (z refl)
+    each false false true x v z = refl
+    each false false false x v z = refl

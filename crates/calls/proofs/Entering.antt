@@ -18,13 +18,13 @@ use Rattle.plan.specs.Layout.{planWords, passesOf}
 use Rattle.plan.specs.Code.{codeFewer}
 use Rattle.graph.specs.Table.{tableOf, Graph}
 use Rattle.graph.specs.Answers.{refusalOf, longPlan, formedPlan, planBody}
-use Rattle.steps.specs.State.{stateOf}
-use Rattle.steps.specs.Answers.{countOk, formedCounts}
+use Rattle.graph.proofs.Lookup.{own-passes}
+use Rattle.steps.specs.State.{stateOf, unmetBy}
+use Rattle.steps.specs.Answers.{countOk, formedCounts, formedNumbers}
 use Rattle.items.specs.declared.Made.{Made}
 use Rattle.items.proofs.Coding.{table-graph}
 use Rattle.calls.specs.declared.Entry.{Entry}
 use Rattle.calls.specs.Doors.{ByPlan, ByState}
-use Rattle.calls.proofs.Behind.{own-passes}
 
 -- a refusal is no other where more is tested, once there is one
 same-refused : (l f g : Bool) → (refusalOf l f true ≡ 0 → ⊥) → refusalOf l f true ≡ refusalOf l (f && g) true
@@ -105,7 +105,7 @@ module _ (P C table : List ℕ) (long : Bool) (r : Entry) (table′ : List ℕ) 
   state-refused n =
       let k : refusalOf all-slices (formedPlan P) true ≡ 0 → ⊥ = λ z. n (B .refusal ∙ z) in
       record {
-        refusal = B .refusal ∙ same-refused all-slices (formedPlan P) (formedCounts P C []) k;
+        refusal = B .refusal ∙ same-refused all-slices (formedPlan P) (formedCounts P C [] && formedNumbers P C []) k;
         clear = λ z. absurd (n z);
         listed = B .refused n .1 ∙ rw (some-refused all-slices (formedPlan P) k);
         refused = λ z. B .refused n .0;
@@ -131,14 +131,18 @@ module _ (P C table : List ℕ) (long : Bool) (r : Entry) (table′ : List ℕ) 
     filled = B .listed z ∙ rw (passed .0, passed .1, lent-graph .count)
 
     module _ (passes : ℕ) (p : passes ≡ passesOf (take planWords P)) (ok : Bool)
-        (o : ok ≡ allBelow (r .items) (λ a. countOk (passes - codeFewer (getD table′ a 0)) (stateOf C []) a)) where
-      by-own : ok ≡ allBelow (r .items) (λ a. countOk (itemPasses (planBody P) a) (stateOf C []) a)
+        (o : ok ≡ (allBelow (r .items) (λ a. countOk (passes - codeFewer (getD table′ a 0)) (stateOf C []) a) && allBelow (r .items) (λ a. leb (unmetBy C a) (r .items)))) where
+      abbrev numbers : Bool
+      numbers = allBelow (r .items) (λ a. leb (unmetBy C a) (r .items))
+
+      by-own : ok ≡ (allBelow (r .items) (λ a. countOk (itemPasses (planBody P) a) (stateOf C []) a) && numbers)
       by-own =
           o
-          ∙ all-ext (r .items) (λ a. countOk (passes - codeFewer (getD table′ a 0)) (stateOf C []) a) (λ a. countOk (itemPasses (planBody P) a) (stateOf C []) a)
-          (λ a l. ap (λ (k : ℕ). countOk k (stateOf C []) a) (own-passes (take planWords P) table′ (r .items) lent-graph passes p a l (passes - codeFewer (getD table′ a 0)) refl))
+          ∙ ap (λ (b : Bool). b && numbers)
+          (all-ext (r .items) (λ a. countOk (passes - codeFewer (getD table′ a 0)) (stateOf C []) a) (λ a. countOk (itemPasses (planBody P) a) (stateOf C []) a)
+          (λ a l. ap (λ (k : ℕ). countOk k (stateOf C []) a) (own-passes (take planWords P) table′ (r .items) lent-graph passes p a l (passes - codeFewer (getD table′ a 0)) refl)))
 
-      counted : ok ≡ formedCounts P C []
+      counted : ok ≡ (formedCounts P C [] && formedNumbers P C [])
       counted = by-own ∙ rw (lent-graph .count)
 
       pub state-unformed : (s : Entry) → ok ≡ false → s ≡ record { refusal = 12; items = 0 } → ByState P C long table s table′
@@ -152,13 +156,15 @@ module _ (P C table : List ℕ) (long : Bool) (r : Entry) (table′ : List ℕ) 
 
       pub state-clear : ok ≡ true → ByState P C long table r table′
       state-clear u =
+          let k = and-true (allBelow (r .items) (λ a. countOk (itemPasses (planBody P) a) (stateOf C []) a)) numbers (sym by-own ∙ u) in
           record {
             refusal = z ∙ rw (passed .0, passed .1, ← counted, u);
-            clear = λ k.
+            clear = λ y.
                 record {
                   graph = lent-graph;
                   room = lent-counts;
-                  counts-ok = λ a l. all-at (λ a. countOk (itemPasses (planBody P) a) (stateOf C []) a) (r .items) a (sym by-own ∙ u) l;
+                  counts-ok = λ a l. all-at (λ a. countOk (itemPasses (planBody P) a) (stateOf C []) a) (r .items) a (k .0) l;
+                  numbers-ok = λ a l. all-at (λ a. leb (unmetBy C a) (r .items)) (r .items) a (k .1) l;
                 };
             listed = filled;
             refused = λ k. absurd (k z);

@@ -1,4 +1,5 @@
 pub mod Counting
 pub mod Entering
 pub mod Behind
+pub mod Finishing
 pub mod Listed

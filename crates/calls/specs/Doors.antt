@@ -11,8 +11,8 @@ use Rattle.plan.specs.Layout.{planWords, bodyOf}
 use Rattle.plan.specs.Sizes.{countWords}
 use Rattle.graph.specs.Table.{tableOf, Graph}
 use Rattle.graph.specs.Answers.{refusalOf, longPlan, formedPlan, planBody}
-use Rattle.steps.specs.State.{stateOf}
-use Rattle.steps.specs.Answers.{countOk, formedCounts}
+use Rattle.steps.specs.State.{stateOf, unmetBy}
+use Rattle.steps.specs.Answers.{countOk, formedCounts, formedNumbers}
 use Rattle.calls.specs.declared.Entry.{Entry}
 
 -- by the plan P, where the other slices are long enough or not
@@ -27,10 +27,12 @@ pub record Clear (w counts table : List ℕ) (n : ℕ) : Type 0 where
   pub graph : Graph w table n
   pub room : countWords ≤ length counts
   pub counts-ok : (a : ℕ) → a < n → countOk (itemPasses (bodyOf w) a) (stateOf counts []) a ≡ true
+  pub numbers-ok : (a : ℕ) → a < n → leb (unmetBy counts a) n ≡ true
 
 -- by the plan P and the counts
 pub record ByState (P counts : List ℕ) (long : Bool) (table : List ℕ) (r : Entry) (table′ : List ℕ) : Type 0 where
-  pub refusal : r .refusal ≡ refusalOf (longPlan P && (leb countWords (length counts) && long)) (formedPlan P && formedCounts P counts []) true
+  pub refusal : r .refusal ≡ refusalOf (longPlan P && (leb countWords (length counts) && long))
+      (formedPlan P && (formedCounts P counts [] && formedNumbers P counts [])) true
   pub clear : r .refusal ≡ 0 → Clear (take planWords P) counts table′ (r .items)
   pub listed : table′ ≡ cond ((longPlan P && (leb countWords (length counts) && long)) && formedPlan P)
       (tableOf (planBody P) ++ drop (itemCount (planBody P)) table) table

@@ -1,5 +1,5 @@
-// The counts of started and finished passes: whether they are in form, and whether the loop is
-// complete; their opening.
+// The counts: whether those of passes and the numbers of unmet waits are in form, and whether the
+// loop is complete; the opening of the passes.
 ghost use Prim.Native.Nat.{ℕ, _+_, _-_, _≤_, _<_};
 ghost use mathlib.Core.Path.{_≡_};
 ghost use mathlib.Core.Bool.{_&&_, _||_};
@@ -11,28 +11,34 @@ ghost use Rattle.finite.specs.Update.{replaced};
 ghost use Rattle.plan.specs.Limits.{maxPasses};
 ghost use Rattle.plan.specs.Sizes.{maxItems, countWords, firstFinished};
 ghost use Rattle.plan.specs.Code.{codeFewer};
-ghost use Rattle.steps.specs.State.{stateOf};
+ghost use Rattle.steps.specs.State.{stateOf, unmetBy};
 ghost use Rattle.steps.specs.Answers.{countOk};
+use plan::numbers::as_word;
 use plan::state::Count;
 use plan::state::FIRST_FINISHED;
+use plan::state::FIRST_UNMET;
 use plan::state::TOP_BIT;
 use plan::state::own_passes;
 use plan::state::surplus;
 
 // Whether the counts of all n items of a table are in form: no more finished than the item has
-// passes, and as many started, or one more with a pass left. `apart` joins the passes started and
-// not finished, 0 or 1 an item; `beyond` has its top bit clear while no count is too large.
+// passes, and as many started, or one more with a pass left; and no more unmet waits than items.
+// `apart` joins the passes started and not finished, 0 or 1 an item; `beyond` and `above` have their
+// top bit clear while no count and no number is too large.
 pub(crate) fn are_formed(counts: &[Count], table: &[u16], passes: Count, n: usize) -> bool
     requires { ⌜
         (countWords ≤ length (now counts)) × (n ≤ length (now table)) × (passes ≤ maxPasses) × (n ≤ maxItems)
         × ((a : ℕ) → a < n → codeFewer (getD (now table) a 0) ≤ 1)
         ⌝ }
     ensures { λ r. ⌜
-        r ≡ allBelow n (λ a. countOk (passes - codeFewer (getD (now (table .entry)) a 0)) (stateOf (now (counts .entry)) []) a)
+        r ≡ (allBelow n (λ a. countOk (passes - codeFewer (getD (now (table .entry)) a 0)) (stateOf (now (counts .entry)) []) a)
+        && allBelow n (λ a. leb (unmetBy (now (counts .entry)) a) n))
         ⌝ }
 {
+    let most = as_word(n);
     let mut apart: u64 = 0;
     let mut beyond: u64 = 0;
+    let mut above: u64 = 0;
     let mut a: usize = 0;
     while a < n {
         let own = own_passes(passes, table[a]);
@@ -40,9 +46,11 @@ pub(crate) fn are_formed(counts: &[Count], table: &[u16], passes: Count, n: usiz
         let finished = counts[FIRST_FINISHED + a];
         apart = apart | surplus(started, finished);
         beyond = beyond | (finished | surplus(own, started));
+        let number = counts[FIRST_UNMET + a];
+        above = above | (number | surplus(most, number));
         a += 1;
     }
-    (apart < 2) & (beyond < TOP_BIT)
+    ((apart < 2) & (beyond < TOP_BIT)) & (above < TOP_BIT)
 }
 
 // Whether all n items of a table have finished the passes that they have. `missing` joins the
@@ -66,7 +74,7 @@ pub(crate) fn are_complete(counts: &[Count], table: &[u16], passes: Count, n: us
     missing < 1
 }
 
-// Both counts of each of n items to 0.
+// The started and finished passes of each of n items to 0.
 pub(crate) fn clear_counts(counts: &mut [Count], n: usize)
     requires { ⌜ (countWords ≤ length (now counts)) × (n ≤ maxItems) ⌝ }
     ensures { λ _. ⌜ now (counts .exit) ≡ replaced (λ i. ltb i n || (leb firstFinished i && ltb i (firstFinished + n))) (λ i. 0) (now (counts .entry)) ⌝ }

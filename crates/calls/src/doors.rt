@@ -52,8 +52,8 @@ pub fn enter_plan(plan: &[u64], long: bool, table: &mut [u16]) -> Entry
     }
 }
 
-// By the plan and the counts: 11 and 12 as before, and 12 where the counts of an item are not in
-// form; the table then has the items.
+// By the plan and the counts: 11 and 12 as before, and 12 where the counts of an item or its number
+// of unmet waits are not in form; the table then has the items.
 pub fn enter_state(plan: &[u64], counts: &[Count], long: bool, table: &mut [u16]) -> Entry
     requires { ⌜ length (now table) ≡ maxItems ⌝ }
     ensures { λ r. ⌜ ByState (now (plan .entry)) (now (counts .entry)) long (now (table .entry)) r (now (table .exit)) ⌝ }

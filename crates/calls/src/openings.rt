@@ -9,9 +9,10 @@ ghost use Rattle.calls.specs.Told.{toldOpening};
 use crate::counts::clear_counts;
 use plan::state::Count;
 use plan::state::MAX_ITEMS;
+use unmet::openings::open_numbers;
 use values::openings::open_values;
 
-// Every copy to its starting value; counts, slots and held words to 0.
+// Every copy to its starting value; passes, slots and held words to 0; the unmet waits are counted.
 pub fn open_clear(
     plan: &[u64],
     table: &[u16; MAX_ITEMS],
@@ -25,5 +26,6 @@ pub fn open_clear(
         ⌝ }
 {
     clear_counts(counts, n);
+    open_numbers(plan, table, n, counts);
     open_values(plan, table, n, values);
 }

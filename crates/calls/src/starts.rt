@@ -17,10 +17,10 @@ use plan::numbers::wide_16;
 use plan::state::Count;
 use plan::state::FIRST_FINISHED;
 use plan::state::FIRST_HELD;
+use plan::state::FIRST_UNMET;
 use plan::state::MAX_ITEMS;
 use plan::state::own_passes;
 use values::places::item_word;
-use walk::waits::waits_met;
 
 // Item a reads and computes its word, which is held and answered; the start is counted.
 pub fn start_item(
@@ -48,7 +48,7 @@ pub fn start_item(
 }
 
 // Starts the next pass of an item, or refuses it: 13 there is no such item, 14 it has no pass left,
-// 15 it runs, 16 a source has not finished.
+// 15 it runs, 16 its number of unmet waits is not 0.
 pub fn start_clear(
     plan: &[u64],
     table: &[u16; MAX_ITEMS],
@@ -74,7 +74,7 @@ pub fn start_clear(
     if pass != done {
         return no_word(15);
     }
-    if !waits_met(plan, table, n, a, pass, &counts[FIRST_FINISHED..]) {
+    if counts[FIRST_UNMET + a] != 0 {
         return no_word(16);
     }
     start_item(plan, wide_16(table[a]), a, counts, values)

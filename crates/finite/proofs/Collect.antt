@@ -25,6 +25,11 @@ module _ {X : Type 0} where
   collect-range zero f = refl
   collect-range (suc n) f = ap (λ l. l ++ f n) (collect-range n f) ∙ sym (flatMap-range f n)
 
+  pub gather-collect : (n : ℕ) (p : ℕ → Bool) (f : ℕ → X) → gather n p f ≡ collect n (λ k. cond (p k) (f k ∷ []) [])
+  unfolding gather collect
+  gather-collect zero p f = refl
+  gather-collect (suc n) p f = ap (λ (l : List X). l ++ cond (p n) (f n ∷ []) []) (gather-collect n p f)
+
   pub collect-first : (n : ℕ) (f : ℕ → List X) → collect (suc n) f ≡ f 0 ++ collect n (λ k. f (suc k))
   unfolding collect
   collect-first zero f = sym (append-nil (f 0))

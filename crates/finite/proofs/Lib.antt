@@ -7,6 +7,7 @@ pub mod Decide
 pub mod Sorted
 pub mod Tabulate
 pub mod Replaced
+pub mod Within
 pub mod Sums
 pub mod Collect
 pub mod Bits

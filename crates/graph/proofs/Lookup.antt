@@ -10,7 +10,7 @@ use Rattle.body.proofs.ItemList.{tasks-listed}
 use Rattle.body.proofs.Wrapped.{fewer-most}
 use Rattle.body.proofs.Accessed.{Known, item-known, rank-below}
 use Rattle.edges.specs.Tests.{kindAt, rankAt}
-use Rattle.plan.specs.Limits.{maxRanks, maxRegions}
+use Rattle.plan.specs.Limits.{maxPasses, maxRanks, maxRegions}
 use Rattle.plan.specs.Layout.{passesOf, tasksOf, bodyOf}
 use Rattle.plan.specs.Code.{codeFrom, codeFewer, codeRank, codeKind, codeSubject}
 use Rattle.plan.proofs.Facts.{Formed, formed}
@@ -82,3 +82,13 @@ module _ (w items : List ℕ) (n : ℕ) (G : Graph w items n) where
           let l : i < tasksOf w = tasks-listed (bodyOf w) i .0 (a, omega (arith, G .count), code-task z ∙ ap task (sym e)) in
           let u = form .used i l in
           record { long = G .long; below = omega (arith, form .tasks-most); few = u .accesses-most; within = u .region-below; apart = u .apart }
+
+  -- the codes of all items, as a loop over them reads them
+  pub passes-most : passesOf w ≤ maxPasses
+  passes-most = form .passes-most
+
+  pub codes-few : (a : ℕ) → a < n → codeFewer (getD items a 0) ≤ 1
+  codes-few a l = fewer-few a l (getD items a 0) refl
+
+  pub own-passes : (passes : ℕ) → passes ≡ passesOf w → (a : ℕ) → a < n → (own : ℕ) → own ≡ passes - codeFewer (getD items a 0) → own ≡ itemPasses (bodyOf w) a
+  own-passes passes p a l own e = e ∙ (ap (λ (k : ℕ). k - codeFewer (getD items a 0)) p ∙ code-passes a l (getD items a 0) refl)

@@ -13,6 +13,7 @@ use lib.ListN.{length, getD, set}
 use Rattle.finite.specs.Update.{replaced}
 use Rattle.finite.proofs.Tests.{or-cases, and-true}
 use Rattle.finite.proofs.Replaced.{replaced-set, replaced-where, replaced-nowhere, replaced-twice, replaced-ext}
+use Rattle.finite.proofs.Within.{within, ltb-none, ltb-next, within-none, within-next}
 use Rattle.body.specs.Body.{Body, Fits, firstSlot}
 use Rattle.body.specs.Places.{initial}
 use Rattle.edges.specs.Tests.{kindAt}
@@ -23,45 +24,9 @@ use Rattle.graph.specs.Table.{Graph}
 use Rattle.graph.proofs.Lookup.{body-fits, code-kind}
 use Rattle.steps.specs.Answers.{isCopy, isSlot, isHeld}
 
--- i lies among the a numbers from k on
-abbrev pub within : ℕ → ℕ → ℕ → Bool
-within k a i = leb k i && ltb i (k + a)
-
--- and is chosen by q, which counts from k
+-- i lies among the a numbers from k on, and is chosen by q, which counts from k
 abbrev chosen : ℕ → (ℕ → Bool) → ℕ → ℕ → Bool
 chosen k q a i = leb k i && (ltb i (k + a) && q (i - k))
-
-pub ltb-none : (i : ℕ) → ltb i 0 ≡ false
-ltb-none i = le-ltb i 0 (omega arith)
-
-pub ltb-next : (i a : ℕ) → ltb i (a + 1) ≡ (eqb i a || ltb i a)
-ltb-next i a =
-    elim (ℕ-discrete i a) [
-      | yes e ↦ rw (lt-ltb i (a + 1) (omega arith), eq-eqb i a e)
-      | no e ↦
-          elim (decLt i a) [
-            | yes l ↦ rw (lt-ltb i (a + 1) (omega arith), ne-eqb i a e, lt-ltb i a l)
-            | no l ↦ rw (le-ltb i (a + 1) (omega arith), ne-eqb i a e, le-ltb i a (omega arith))
-          ]
-    ]
-
-pub within-none : (k i : ℕ) → within k 0 i ≡ false
-within-none k i =
-    elim (decLt i k) [
-      | yes l ↦ rw (lt-leb k i l)
-      | no l ↦ rw (le-ltb i (k + 0) (omega arith)) (and-false (leb k i))
-    ]
-
-pub within-next : (k a i : ℕ) → within k (a + 1) i ≡ (eqb i (k + a) || within k a i)
-within-next k a i =
-    elim (ℕ-discrete i (k + a)) [
-      | yes e ↦ rw (le-leb k i (omega arith), lt-ltb i (k + (a + 1)) (omega arith), eq-eqb i (k + a) e)
-      | no e ↦
-          elim (decLt i (k + a)) [
-            | yes l ↦ rw (lt-ltb i (k + (a + 1)) (omega arith), ne-eqb i (k + a) e, lt-ltb i (k + a) l)
-            | no l ↦ rw (le-ltb i (k + (a + 1)) (omega arith), ne-eqb i (k + a) e, le-ltb i (k + a) (omega arith))
-          ]
-    ]
 
 chosen-none : (k : ℕ) (q : ℕ → Bool) (i : ℕ) → chosen k q 0 i ≡ false
 chosen-none k q i =

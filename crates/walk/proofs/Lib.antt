@@ -5,4 +5,3 @@ pub mod Runs
 pub mod RowMarks
 pub mod Marked
 pub mod Listing
-pub mod Waiting

@@ -1,5 +1,4 @@
-// The edges and waits of a plan's items: from an item it walks round the loop to the writers of the
-// places that the item touches.
+// The edges of a plan's items: from an item it walks round the loop to the writers of the places
+// that the item touches.
 pub mod list;
 pub mod rows;
-pub mod waits;

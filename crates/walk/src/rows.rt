@@ -3,7 +3,7 @@
 // that shares an open place is marked if one of the two writes it, and closes what it writes.
 ghost use Prim.Native.Nat.{_+_, _≤_, _<_};
 ghost use mathlib.Core.Path.{_≡_};
-ghost use mathlib.Core.Bool.{cond, not, _||_};
+ghost use mathlib.Core.Bool.{true, false, cond, not, _||_};
 ghost use lib.Dec.{eqb};
 ghost use lib.ListN.{length, set, replicate};
 ghost use Rattle.body.specs.Items.{task, itemAt};
@@ -268,4 +268,24 @@ pub fn mark_row(
     marks[a] = 1;
     let kind = item_kind(wide_16(items[a]));
     marks[partner_of(kind, a)] = 1;
+}
+
+// Marks the items with an edge from item a, and those with an edge to it.
+pub fn mark_edges(
+    plan: &[u64],
+    items: &[u16; MAX_ITEMS],
+    n: usize,
+    a: usize,
+    from: &mut [u8],
+    into: &mut [u8],
+)
+    requires { ⌜
+        Graph (now plan) (now items) n × (a < n) × (now from ≡ replicate maxItems 0) × (now into ≡ replicate maxItems 0)
+        ⌝ }
+    ensures { λ _. ⌜
+        Marks (bodyOf (now (plan .entry))) n a false (now (from .exit)) × Marks (bodyOf (now (plan .entry))) n a true (now (into .exit))
+        ⌝ }
+{
+    mark_row(plan, items, n, a, false, from);
+    mark_row(plan, items, n, a, true, into);
 }

@@ -3,7 +3,7 @@ use native.Mathlib.Omega.{arith}
 use borrow.Author.Needs.{needs}
 use denote.Ref.{now}
 use lib.Seq.{length-take-le}
-use Rattle.calls.proofs.Behind.{passes-most, codes-few}
+use Rattle.graph.proofs.Lookup.{passes-most, codes-few}
 use Rattle.calls.proofs.Entering.{state-refused, lent-plan, lent-counts, lent-graph, state-unformed, state-clear}
 use Rattle.calls.proofs.doors.enter_state.Statement.{statement}
 use Rattle.calls.proofs.doors.enter_state.Tie as tie

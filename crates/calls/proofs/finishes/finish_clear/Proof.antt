@@ -1,7 +1,7 @@
 use native.Mathlib.Omega.{arith}
 use borrow.Author.Needs.{needs}
 use denote.Ref.{now}
-use Rattle.calls.proofs.Behind.{told-refused, finish-beyond, finish-idle, finish-made, finish-asks}
+use Rattle.calls.proofs.Behind.{told-refused, finish-beyond, finish-idle, finish-made, finish-asks, write-asks}
 use Rattle.calls.proofs.finishes.finish_clear.Statement.{statement}
 use Rattle.calls.proofs.finishes.finish_clear.Tie as tie
 
@@ -21,24 +21,36 @@ returns-2 c =
     (finish-idle _ (now (a .counts)) _ _ (s .pre .0) (now (a .values)) (s .pre .1) _ _ (index .as-index .ensures)
     (omega (arith, index .before .if1 .left, index .before .before .as-word .ensures)) (c .before .if2 .taken))
 
-finish-item-requires : tie.Need-finish-item-requires
-finish-item-requires c κs =
-    let index = c .before .before .before .before .before .before .before in
+count-finish-requires : tie.Need-count-finish-requires
+count-finish-requires c κs =
+    let runs = c .before in
+    let index = runs .before .before .before in
     let s = index .before .before .before .before .before .before in
     finish-asks _ (now (s .args .counts)) _ _ (s .pre .0) (now (s .args .values)) (s .pre .1) _ _ (index .as-index .ensures)
-    (omega (arith, index .before .if1 .left, index .before .before .as-word .ensures)) (c .before .before .before .before .if2 .left) _ (c .before .before .wide-16 .ensures .0)
+    (omega (arith, index .before .if1 .left, index .before .before .as-word .ensures)) (runs .if2 .left)
+
+write-item-requires : tie.Need-write-item-requires
+write-item-requires c κs =
+    let runs = c .before .before .before .before .before .before .before in
+    let index = runs .before .before .before in
+    let s = index .before .before .before .before .before .before in
+    write-asks _ (now (s .args .counts)) _ _ (s .pre .0) (now (s .args .values)) (s .pre .1) _ _ (index .as-index .ensures)
+    (omega (arith, index .before .if1 .left, index .before .before .as-word .ensures)) (runs .if2 .left) _ (c .before .wide-16 .ensures .0)
 
 returns-3 : tie.Need-returns-3
 returns-3 c =
-    let ended = c .before .before .before .before in
-    let index = ended .before .before .before .before .before .before .before .before in
+    let wrote = c .before .before in
+    let ended = wrote .before .before .before .before .before .before in
+    let runs = ended .before .before in
+    let index = runs .before .before .before in
     let s = index .before .before .before .before .before .before in
     finish-made _ (now (s .args .counts)) _ _ (s .pre .0) (now (s .args .values)) (s .pre .1) _ _ (index .as-index .ensures)
-    (omega (arith, index .before .if1 .left, index .before .before .as-word .ensures)) (ended .before .before .before .before .before .if2 .left) _ (ended .finish-item .ensures)
+    (omega (arith, index .before .if1 .left, index .before .before .as-word .ensures)) (runs .if2 .left)
+    _ _ _ (ended .count-finish .ensures) (wrote .write-item .ensures .0) (wrote .write-item .ensures .1)
 
 pub finish-clear-spec : {M : Type 1} → statement M
 finish-clear-spec =
     tie.close
     (tie.spec (λ c κs. search needs) (λ c κs. search needs) returns (λ c κs. search needs) (λ c. search needs) (λ c. search needs) (λ c. search needs)
-    (λ c. search needs) (λ c. search needs) (λ c κs. search needs) returns-2 (λ c. search needs) (λ c. search needs) (λ c κs. search needs)
-    finish-item-requires (λ c. search needs) (λ c. search needs) returns-3)
+    (λ c. search needs) (λ c. search needs) (λ c κs. search needs) returns-2 count-finish-requires (λ c. search needs) (λ c. search needs)
+    (λ c κs. search needs) write-item-requires (λ c. search needs) (λ c. search needs) returns-3)

@@ -1,7 +1,8 @@
 use native.Mathlib.Omega.{arith}
 use borrow.Author.Needs.{needs}
 use denote.Ref.{now}
-use Rattle.calls.proofs.Behind.{told-refused, passes-most, codes-few, graph-formed, result-beyond, result-early, result-made}
+use Rattle.graph.proofs.Lookup.{passes-most, codes-few}
+use Rattle.calls.proofs.Behind.{told-refused, graph-formed, result-beyond, result-early, result-made}
 use Rattle.calls.proofs.results.result_clear.Statement.{statement}
 use Rattle.calls.proofs.results.result_clear.Tie as tie
 

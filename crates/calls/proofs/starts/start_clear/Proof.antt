@@ -1,8 +1,8 @@
-use Prim.Native.Nat.{_<_}
 use native.Mathlib.Omega.{arith}
 use borrow.Author.Needs.{needs}
 use denote.Ref.{now}
-use Rattle.calls.proofs.Behind.{told-refused, passes-most, codes-few, lent-few, start-beyond, start-done, start-running, start-waiting, start-made, start-asks}
+use Rattle.graph.proofs.Lookup.{passes-most, codes-few}
+use Rattle.calls.proofs.Behind.{told-refused, start-beyond, start-done, start-running, start-waiting, start-made, start-asks}
 use Rattle.calls.proofs.starts.start_clear.Statement.{statement}
 use Rattle.calls.proofs.starts.start_clear.Tie as tie
 
@@ -44,54 +44,44 @@ returns-3 c =
     (omega (arith, index .before .if1 .left, index .before .before .as-word .ensures)) _ _ (own .before .before .pass-count .ensures .0) (own .own-passes .ensures)
     (omega (arith, c .before .before .if2 .left)) (c .before .if3 .taken))
 
-waits-met-requires : tie.Need-waits-met-requires
-waits-met-requires c κs =
-    let else3 = c .before .before in
-    let own = else3 .before .before in
-    let index = own .before .before .before .before .before in
-    let s = index .before .before .before .before .before .before in
-    let below : index .as-index .result < s .args .n = omega (arith, index .as-index .ensures, index .before .if1 .left, index .before .before .as-word .ensures) in
-    let few = lent-few _ (now (s .args .counts)) _ _ (s .pre .0) (now (s .args .values)) (s .pre .1) (index .as-index .result) below (omega (arith, else3 .if3 .left)) in
-    (s .pre .0 .graph, below, search needs, few .0, few .1)
-
 returns-4 : tie.Need-returns-4
 returns-4 c =
-    let waits = c .before .before in
-    let own = waits .before .before .before .before .before in
+    let idle = c .before .before .before in
+    let own = idle .before .before in
     let index = own .before .before .before .before .before in
     let s = index .before .before .before .before .before .before in
     let a = s .args in
     told-refused (now (a .plan)) (now (a .counts)) (now (a .values)) _ _ (c .no-word4 .ensures)
     (start-waiting _ (now (a .counts)) _ _ (s .pre .0) (now (a .values)) (s .pre .1) _ _ (index .as-index .ensures)
     (omega (arith, index .before .if1 .left, index .before .before .as-word .ensures)) _ _ (own .before .before .pass-count .ensures .0) (own .own-passes .ensures)
-    (omega (arith, waits .before .before .before .before .if2 .left)) (omega (arith, waits .before .before .before .if3 .left)) _ (waits .waits-met .ensures) (c .before .if4 .taken))
+    (omega (arith, idle .before .if2 .left)) (omega (arith, idle .if3 .left)) (c .before .if4 .taken))
 
 start-item-requires : tie.Need-start-item-requires
 start-item-requires c κs =
-    let waits = c .before .before .before .before .before in
-    let own = waits .before .before .before .before .before in
+    let idle = c .before .before .before .before .before .before in
+    let own = idle .before .before in
     let index = own .before .before .before .before .before in
     let s = index .before .before .before .before .before .before in
     start-asks _ (now (s .args .counts)) _ _ (s .pre .0) (now (s .args .values)) (s .pre .1) _ _ (index .as-index .ensures)
     (omega (arith, index .before .if1 .left, index .before .before .as-word .ensures)) _ _ (own .before .before .pass-count .ensures .0) (own .own-passes .ensures)
-    (omega (arith, waits .before .before .before .before .if2 .left)) (omega (arith, waits .before .before .before .if3 .left)) _ (waits .waits-met .ensures) _ (c .before .before .wide-16 .ensures .0)
+    (omega (arith, idle .before .if2 .left)) (omega (arith, idle .if3 .left)) _ (c .before .before .wide-16 .ensures .0)
 
 returns-5 : tie.Need-returns-5
 returns-5 c =
     let begun = c .before .before .before .before in
-    let waits = begun .before .before .before .before .before .before in
-    let own = waits .before .before .before .before .before in
+    let met = begun .before .before .before .before .before in
+    let idle = met .before .before in
+    let own = idle .before .before in
     let index = own .before .before .before .before .before in
     let s = index .before .before .before .before .before .before in
     start-made _ (now (s .args .counts)) _ _ (s .pre .0) (now (s .args .values)) (s .pre .1) _ _ (index .as-index .ensures)
     (omega (arith, index .before .if1 .left, index .before .before .as-word .ensures)) _ _ (own .before .before .pass-count .ensures .0) (own .own-passes .ensures)
-    (omega (arith, waits .before .before .before .before .if2 .left)) (omega (arith, waits .before .before .before .if3 .left))
-    _ (waits .waits-met .ensures) (begun .before .before .before .before .before .if4 .left) _ (begun .start-item .ensures)
+    (omega (arith, idle .before .if2 .left)) (omega (arith, idle .if3 .left)) (omega (arith, met .if4 .left)) _ (begun .start-item .ensures)
 
 pub start-clear-spec : {M : Type 1} → statement M
 start-clear-spec =
     tie.close
     (tie.spec (λ c κs. search needs) (λ c κs. search needs) returns (λ c κs. search needs) (λ c. search needs) (λ c. search needs) (λ c. search needs)
-    (λ c. search needs) (λ c. search needs) pass-count-requires (λ c. search needs) (λ c. search needs) own-passes-requires (λ c κs. search needs) returns-2 (λ c κs. search needs) returns-3 (λ c. search needs)
-    (λ c. search needs) (λ c. search needs) waits-met-requires (λ c κs. search needs) (λ c. search needs) returns-4 (λ c. search needs)
-    (λ c. search needs) (λ c κs. search needs) start-item-requires (λ c. search needs) (λ c. search needs) returns-5)
+    (λ c. search needs) (λ c. search needs) pass-count-requires (λ c. search needs) (λ c. search needs) own-passes-requires (λ c κs. search needs)
+    returns-2 (λ c κs. search needs) returns-3 (λ c. search needs) (λ c. search needs) (λ c. search needs) (λ c κs. search needs) returns-4
+    (λ c. search needs) (λ c. search needs) (λ c κs. search needs) start-item-requires (λ c. search needs) (λ c. search needs) returns-5)

@@ -7,7 +7,8 @@ use Rattle.finite.specs.Below.{sumBelow}
 use Rattle.finite.proofs.Below.{sum-none, sum-more, sum-done}
 use Rattle.plan.specs.Limits.{maxPasses}
 use Rattle.plan.specs.Code.{codeFewer}
-use Rattle.calls.proofs.Behind.{passes-most, codes-few, total-is}
+use Rattle.graph.proofs.Lookup.{passes-most, codes-few}
+use Rattle.calls.proofs.Behind.{total-is}
 use Rattle.calls.proofs.totals.total_steps.Statement.{statement}
 use Rattle.calls.proofs.totals.total_steps.Tie as tie
 
