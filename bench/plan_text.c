@@ -8,7 +8,7 @@ static char text[TEXT_ROOM];
 int main(int argc, char **argv) {
     int length = argc > 1 ? named_plan(text, argv[1]) : 0;
     if (length == 0) {
-        fprintf(stderr, "plan_text NAME [PASSES]: example, largest, shorter, items, items2, walk or blocks\n");
+        fprintf(stderr, "plan_text NAME [PASSES]: example, largest, shorter, items, items2, walk, blocks or line\n");
         return 2;
     }
     if (argc > 2)

@@ -122,6 +122,22 @@ static int blocks_plan(char *text) {
     return at;
 }
 
+/* Gauss-Seidel on 40 blocks in a line on one rank: a block reads itself and those beside it. */
+static int line_plan(char *text) {
+    enum { BLOCKS = 40 };
+    int at = put_loop(text, 0, 10, 1, BLOCKS);
+    for (int block = 0; block < BLOCKS; block++) {
+        at = put_begin(text, at, 0);
+        if (block > 0)
+            at = put_access(text, at, "in", block - 1);
+        if (block < BLOCKS - 1)
+            at = put_access(text, at, "in", block + 1);
+        at = put_access(text, at, "inout", block);
+        at = put(text, at, "end\n");
+    }
+    return at;
+}
+
 /* Gives a plan's text another number of passes, in its first line, and answers its length. */
 static inline int with_passes(char *text, int length, uint64_t passes) {
     char line[64];
@@ -150,6 +166,8 @@ static int named_plan(char *text, const char *name) {
         return longest_walk_plan(text);
     if (strcmp(name, "blocks") == 0)
         return blocks_plan(text);
+    if (strcmp(name, "line") == 0)
+        return line_plan(text);
     return 0;
 }
 

@@ -54,6 +54,7 @@ void put_counts_near(struct trial *trial, struct rng *rng, uint64_t passes, uint
         f = f < own ? f : own;
         put_item_counts(trial, a, f + (f < own && draw_below(rng, 3) == 0), f);
     }
+    put_fresh_numbers(trial);
 }
 
 /* Random counts in form; now and then all passes are finished. */
@@ -114,6 +115,7 @@ void try_all(struct trial *trial, struct rng *rng, struct lengths lengths) {
         try_any(trial, rng, (enum call)call, lengths);
         trial->lent = trial->expected = kept;
     }
+    try_ready(trial, lengths, ITEM_ROOM, NULL);
 }
 
 /* Calls in a random state, whose words are those of no loop: they are answered by the counts and
@@ -124,10 +126,10 @@ static void try_state(struct trial *trial, struct rng *rng) {
         try_any(trial, rng, (enum call)(1 + draw_below(rng, CALLS - 1)), draw_enough(rng));
 }
 
-/* One count changed: 12, or the state is still in form. */
+/* One count changed, or one number of unmet waits: 12, or the state is still in form. */
 static void try_damaged_count(struct trial *trial, struct rng *rng) {
     int item = draw_below(rng, trial->shape.graph.items + (draw_below(rng, 4) == 0));
-    int at = item % MAX_ITEMS + MAX_ITEMS * draw_below(rng, 2);
+    int at = item % MAX_ITEMS + MAX_ITEMS * draw_below(rng, 3);
     uint64_t kept = trial->lent.counts[at];
     trial->lent.counts[at] = trial->expected.counts[at] = draw_instead(rng, kept);
     try_all(trial, rng, draw_enough(rng));
@@ -225,6 +227,7 @@ void short_group(struct trial *trial, struct rng *rng) {
     for (int k = 0; k < 4; k++)
         try_all(trial, rng, draw_lengths(rng));
     try_items(trial, PLAN_WORDS, ITEM_ROOM - 1);
+    try_ready(trial, least, ITEM_ROOM - 1, NULL);
     try_edges(trial, PLAN_WORDS, EDGE_ROOM - 1);
     try_total(trial, PLAN_WORDS - 1);
     try_total(trial, 0);

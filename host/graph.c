@@ -104,11 +104,14 @@ static void add_edge(struct graph *graph, int from, int to, int distance) {
 
 static void list_edges(struct graph *graph, uint8_t marks[MAX_ITEMS][MAX_ITEMS]) {
     graph->edges = 0;
-    for (int a = 0; a < graph->items; a++)
+    for (int a = 0; a < graph->items; a++) {
+        graph->first_from[a] = graph->edges;
         for (int b = 0; b < graph->items; b++)
             for (int d = 0; marks[a][b] >> d != 0; d++)
                 if ((marks[a][b] >> d & 1) != 0)
                     add_edge(graph, a, b, d);
+    }
+    graph->first_from[graph->items] = graph->edges;
 }
 
 /* Sorts the edges by the item that they lead into. */

@@ -36,14 +36,15 @@ struct edge {
     int from, to, distance;
 };
 
-/* Edges stand in the order from, to, distance. Those into item b are `into` from first_into[b] on,
-   as far as first_into[b + 1]. `wrapped` is the number of wrapped transfers: those of which every
-   read that they serve stands at or before their writer in the body. */
+/* Edges stand in the order from, to, distance: those from item b at first_from[b] and on, as far as
+   first_from[b + 1]. Those into item b are `into` from first_into[b] on, as far as
+   first_into[b + 1]. `wrapped` is the number of wrapped transfers: those of which every read that
+   they serve stands at or before their writer in the body. */
 struct graph {
     int items, edges, wrapped;
     struct item item[MAX_ITEMS];
     struct edge edge[MAX_EDGES], into[MAX_EDGES];
-    int first_into[MAX_ITEMS + 1];
+    int first_from[MAX_ITEMS + 1], first_into[MAX_ITEMS + 1];
 };
 
 /* Makes the graph of a plan within its limits. The edges of each place are found by walking from

@@ -16,7 +16,7 @@ void reading_group(struct trial *trial, struct rng *rng);
 void graph_group(struct trial *trial, struct rng *rng);
 
 /* A whole play in a random order, with calls between that may be refused: each word is the unrolled
-   loop's. */
+   loop's, and the numbers of unmet waits are fresh after each call. */
 void steps_group(struct trial *trial, struct rng *rng);
 
 /* A whole play by lists of calls, refused ones among them, each list made by one call: the answers
@@ -27,8 +27,8 @@ void lists_group(struct trial *trial, struct rng *rng);
    length, and plans with one word changed. */
 void writing_group(struct trial *trial, struct rng *rng);
 
-/* Plans and counts with one word changed, states that belong to no loop, and counts about the last
-   pass of a wrapped transfer's items. */
+/* Plans and counts, numbers of unmet waits among them, with one word changed, states that belong to
+   no loop, and counts about the last pass of a wrapped transfer's items. */
 void damage_group(struct trial *trial, struct rng *rng);
 
 /* Slices too short. */
@@ -49,6 +49,10 @@ void passes_group(struct trial *trial, struct rng *rng);
 /* Texts whose numbers have any number of digits, with bytes about a tab or a line feed that a
    search could take for it, in blocks that end where the text ends. The plans are small. */
 void search_group(struct trial *trial, struct rng *rng);
+
+/* Plays by the items that are ready, which are those whose start is accepted; numbers of unmet
+   waits put by hand, in form or not: calls go by what is stored. */
+void waits_group(struct trial *trial, struct rng *rng);
 
 /* The size of a group's plan: of 32, two have as many items as there can be, and two are large. */
 enum size size_of(long number);
@@ -83,14 +87,15 @@ int draw_place(struct rng *rng, int tasks);
 /* A word in place of another: one near it, one with a bit or a field changed, or any. */
 uint64_t draw_instead(struct rng *rng, uint64_t word);
 
-/* Makes each call once, and a list of three, with the memory as it is, and puts it back. */
+/* Makes each call once, and a list of three, with the memory as it is, and puts it back; asks which
+   items are ready. */
 void try_all(struct trial *trial, struct rng *rng, struct lengths lengths);
 
 /* Puts the counts of one item into both memories. */
 void put_item_counts(struct trial *trial, int item, uint64_t started, uint64_t finished);
 
 /* Puts random counts in form: each item has finished so many passes or up to so many fewer, but not
-   more than it has, and some are running. */
+   more than it has, and some are running. The numbers of unmet waits are counted. */
 void put_counts_near(struct trial *trial, struct rng *rng, uint64_t passes, uint64_t fewer);
 
 /* A start of an item with these counts; whether it is refused with this number. Leaves the memory
@@ -101,8 +106,8 @@ bool refused_with(struct trial *trial, int item, uint64_t started, uint64_t fini
 /* An item of a wrapped transfer, or -1 where there is none. */
 int draw_wrapped(struct trial *trial, struct rng *rng);
 
-/* Every call once, and a list of calls, with a count or a word of the plan changed or with slices
-   that may be too short. Leaves the memory as it was. */
+/* Every call once, and a list of calls, with a count, a number of unmet waits or a word of the plan
+   changed, or with slices that may be too short. Leaves the memory as it was. */
 void try_damage(struct trial *trial, struct rng *rng);
 
 #endif

@@ -24,12 +24,19 @@ static uint64_t finished(const struct memory *memory, int item) {
     return memory->counts[MAX_ITEMS + item];
 }
 
+/* The number of unmet waits that is stored for an item. */
+static uint64_t unmet(const struct memory *memory, int item) {
+    return memory->counts[FIRST_UNMET + item];
+}
+
 /* Whether every item's counts can stand: as many passes started as finished, or one more with a
-   pass left. */
+   pass left; and no more unmet waits than there are items. */
 static bool counts_formed(const struct shape *shape, const struct memory *memory) {
     for (int a = 0; a < shape->graph.items; a++) {
         uint64_t s = started(memory, a), f = finished(memory, a), passes = passes_of(shape, a);
         if (f > passes || !(s == f || (s == f + 1 && f < passes)))
+            return false;
+        if (unmet(memory, a) > (uint64_t)shape->graph.items)
             return false;
     }
     return true;
@@ -53,13 +60,16 @@ static bool wait_met(const struct shape *shape, const struct memory *memory,
     return instance >= passes_of(shape, edge->from) || finished(memory, edge->from) > instance;
 }
 
-/* Whether everything has finished that the item's next pass waits for. */
-static bool waits_met(const struct shape *shape, const struct memory *memory, int item) {
+/* How many waits of the item for the first pass that it has not finished are unmet; 0 where it has
+   no such pass. */
+static uint64_t unmet_waits(const struct shape *shape, const struct memory *memory, int item) {
     const struct graph *graph = &shape->graph;
+    uint64_t pass = finished(memory, item), count = 0;
+    if (pass >= passes_of(shape, item))
+        return 0;
     for (int e = graph->first_into[item]; e < graph->first_into[item + 1]; e++)
-        if (!wait_met(shape, memory, &graph->into[e], finished(memory, item)))
-            return false;
-    return true;
+        count += !wait_met(shape, memory, &graph->into[e], pass);
+    return count;
 }
 
 static uint64_t start_refusal(const struct shape *shape, const struct memory *memory, int item) {
@@ -67,7 +77,7 @@ static uint64_t start_refusal(const struct shape *shape, const struct memory *me
         return 14;
     if (started(memory, item) != finished(memory, item))
         return 15;
-    return waits_met(shape, memory, item) ? 0 : 16;
+    return unmet(memory, item) == 0 ? 0 : 16;
 }
 
 static uint64_t finish_refusal(const struct memory *memory, int item) {
@@ -90,6 +100,8 @@ static void open_state(const struct shape *shape, struct memory *memory) {
         if (shape->graph.item[a].kind == SEND)
             memory->values[FIRST_SLOT + a] = 0;
     }
+    for (int a = 0; a < shape->graph.items; a++)
+        memory->counts[FIRST_UNMET + a] = unmet_waits(shape, memory, a);
 }
 
 /* The word of an item: what a task computes from its reads, or the one that a send or receive
@@ -109,10 +121,25 @@ static uint64_t start_item(const struct shape *shape, struct memory *memory, int
     return memory->values[FIRST_HELD + item] = item_word(shape, memory, &shape->graph.item[item]);
 }
 
+/* Takes one off the number of each other item whose wait the finish of item b in its pass meets; a
+   0 stays 0. */
+static void lower_numbers(const struct shape *shape, struct memory *memory, int b, uint64_t pass) {
+    const struct graph *graph = &shape->graph;
+    for (int e = graph->first_from[b]; e < graph->first_from[b + 1]; e++) {
+        int a = graph->edge[e].to;
+        uint64_t waiting = pass + (uint64_t)graph->edge[e].distance;
+        if (a != b && finished(memory, a) == waiting && waiting < passes_of(shape, a) &&
+            unmet(memory, a) > 0)
+            memory->counts[FIRST_UNMET + a]--;
+    }
+}
+
 static uint64_t finish_item(const struct shape *shape, struct memory *memory, int a) {
     const struct item *item = &shape->graph.item[a];
     uint64_t word = memory->values[FIRST_HELD + a];
+    lower_numbers(shape, memory, a, finished(memory, a));
     memory->counts[MAX_ITEMS + a]++;
+    memory->counts[FIRST_UNMET + a] = unmet_waits(shape, memory, a);
     for (int t = 0; t < item->touches; t++)
         if (item->touch[t].written)
             memory->values[item->touch[t].place] = word;
@@ -178,6 +205,19 @@ uint64_t model_play(const struct shape *shape, struct memory *memory, struct len
         answers[2 * k + 1] = answer.word;
     }
     return 0;
+}
+
+struct answer model_ready(const struct shape *shape, const struct memory *memory,
+                          struct lengths lengths, uint16_t *items, size_t items_length) {
+    uint64_t number = 0;
+    if (too_short(lengths) || items_length < MAX_ITEMS)
+        return (struct answer){11, 0};
+    if (!shape->formed || !counts_formed(shape, memory))
+        return (struct answer){12, 0};
+    for (int a = 0; a < shape->graph.items; a++)
+        if (is_free(START_CALL, shape, memory, a))
+            items[number++] = (uint16_t)a;
+    return (struct answer){0, number};
 }
 
 struct answer model_total(const struct shape *shape, size_t plan_length) {

@@ -9,7 +9,13 @@
 #include "graph.h"
 #include "plan.h"
 
-enum { COUNTS = 2 * MAX_ITEMS, FIRST_HELD = PLACES, VALUES = FIRST_HELD + MAX_ITEMS, GUARD = 32 };
+enum {
+    FIRST_UNMET = 2 * MAX_ITEMS,
+    COUNTS = FIRST_UNMET + MAX_ITEMS,
+    FIRST_HELD = PLACES,
+    VALUES = FIRST_HELD + MAX_ITEMS,
+    GUARD = 32
+};
 
 /* The slices of a call, each between guards that nobody may change. */
 struct memory {
@@ -49,6 +55,11 @@ struct answer model_call(enum call call, const struct shape *shape, struct memor
 uint64_t model_play(const struct shape *shape, struct memory *memory, struct lengths lengths,
                     const uint64_t *calls, size_t number, uint64_t *answers,
                     size_t answers_length);
+
+/* Puts the numbers of the items whose start is accepted into `items`, rising. The word is how many
+   they are. */
+struct answer model_ready(const struct shape *shape, const struct memory *memory,
+                          struct lengths lengths, uint16_t *items, size_t items_length);
 
 /* The total of steps of a plan of this shape. The word is the number. */
 struct answer model_total(const struct shape *shape, size_t plan_length);

@@ -58,12 +58,14 @@ static int find_behind(struct trial *trial, struct rng *rng, enum call call, uin
     return -1;
 }
 
-/* Makes a step that is free. It adds 1 to the item's count. */
+/* Makes a step that is free. It adds 1 to the item's count, and leaves fresh numbers of unmet
+   waits. */
 static struct step take_step(struct trial *trial, struct rng *rng, enum call call, int item) {
     const uint64_t *at = &trial->lent.counts[call == START_CALL ? item : MAX_ITEMS + item];
     uint64_t expected = *at + 1;
     struct answer answer = try_call(trial, call, draw_enough(rng), (uint64_t)item);
     uint64_t count = with_cut_count(trial, *at);
+    try_fresh(trial);
     if (answer.refusal != 0 || count != expected)
         differ(trial, "item %d: refusal %" PRIu64 ", the count is %" PRIu64 ", expected %" PRIu64,
                item, answer.refusal, count, expected);
@@ -113,6 +115,7 @@ static void open_at(struct trial *trial, uint64_t passes) {
     try_call(trial, OPEN_CALL, least, 0);
     for (int a = 0; a < trial->shape.graph.items; a++)
         put_item_counts(trial, a, passes, passes);
+    put_fresh_numbers(trial);
 }
 
 /* A step has the word of the loop that begins after so many passes. */

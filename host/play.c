@@ -26,20 +26,17 @@ static bool text_of_file(const char *file, char *text, size_t *length) {
     return true;
 }
 
-/* Asks for the items, the edges and the total, and finds whose word each item has: a send and its
-   receive follow their writer. */
-static bool take_graph(struct play *play) {
+/* Asks for the items and the total, and finds whose word each item has: a send and its receive
+   follow their writer. */
+static bool take_items(struct play *play) {
     taskiter_number n =
         taskiter_items(play->words, TASKITER_PLAN_WORDS, play->item, TASKITER_MAX_ITEMS);
-    taskiter_number m =
-        taskiter_edges(play->words, TASKITER_PLAN_WORDS, play->edge, TASKITER_EDGE_NUMBERS);
     taskiter_number total = taskiter_total(play->words, TASKITER_PLAN_WORDS);
     play->items = (int)n.number;
-    play->edges = (int)m.number;
     play->total = total.number;
     for (int a = 0, task = -1; a < play->items; a++)
         play->task[a] = task += TASKITER_ITEM_KIND(play->item[a]) == 0;
-    return n.refusal == 0 && m.refusal == 0 && total.refusal == 0;
+    return n.refusal == 0 && total.refusal == 0;
 }
 
 bool play_begin(struct play *play, const char *file, struct rng *rng) {
@@ -62,11 +59,20 @@ bool play_begin(struct play *play, const char *file, struct rng *rng) {
     loop_begin(&play->loop, &play->plan);
     return taskiter_open(play->words, TASKITER_PLAN_WORDS, play->counts, TASKITER_COUNTS,
                          play->values, TASKITER_VALUES) == 0 &&
-           take_graph(play);
+           take_items(play);
 }
 
 int play_rank(const struct play *play, int item) {
     return TASKITER_ITEM_RANK(play->item[item]);
+}
+
+uint64_t play_ready(struct play *play) {
+    taskiter_number answer = taskiter_ready(play->words, TASKITER_PLAN_WORDS, play->counts,
+                                            TASKITER_COUNTS, play->values, TASKITER_VALUES,
+                                            play->ready, TASKITER_MAX_ITEMS);
+    play->readies = (int)answer.number;
+    play->lists++;
+    return answer.refusal;
 }
 
 /* Counts a step; one that is accepted has the word of its pass in the unrolled loop. */

@@ -7,18 +7,19 @@
 #include "draw.h"
 #include "loop.h"
 
-/* `task` is an item's task, or the writer whose word it carries. `total` is how many steps there
-   are from the opening to the end. `differ` counts the words that are not the unrolled loop's. */
+/* `task` is an item's task, or the writer whose word it carries. `ready` has the items that were
+   ready when the last list of them was asked for, and `lists` counts these lists. `total` is how
+   many steps there are from the opening to the end. `differ` counts the words that are not the
+   unrolled loop's. */
 struct play {
     uint64_t words[TASKITER_PLAN_WORDS];
     TASKITER_COUNT_TYPE counts[TASKITER_COUNTS];
     uint64_t values[TASKITER_VALUES];
-    uint16_t item[TASKITER_MAX_ITEMS];
-    uint32_t edge[TASKITER_EDGE_NUMBERS];
-    int items, edges;
+    uint16_t item[TASKITER_MAX_ITEMS], ready[TASKITER_MAX_ITEMS];
+    int items, readies;
     int task[TASKITER_MAX_ITEMS];
     uint64_t started[TASKITER_MAX_ITEMS], finished[TASKITER_MAX_ITEMS];
-    uint64_t total, steps, refused, differ;
+    uint64_t total, steps, refused, lists, differ;
     struct plan plan;
     struct loop loop;
 };
@@ -29,6 +30,9 @@ bool play_begin(struct play *play, const char *file, struct rng *rng);
 
 /* The rank of an item. */
 int play_rank(const struct play *play, int item);
+
+/* Asks which items are ready. Answers the refusal, 0 if there is none. */
+uint64_t play_ready(struct play *play);
 
 /* Starts or finishes an item, and counts it as taken or refused. Answers the refusal, 0 if there is
    none. */

@@ -177,6 +177,7 @@ static void play_plan(struct trial *trial, struct rng *rng, uint64_t most) {
             take_blind(trial, rng, &order);
         else
             take_free(trial, rng, &order);
+        try_fresh(trial);
         if (draw_below(rng, 64) == 0)
             try_damage(trial, rng);
     }
@@ -233,6 +234,7 @@ static void play_list(struct trial *trial, struct rng *rng) {
     if (number > 0)
         try_play(trial, least, calls, number, 2 * number - 1);
     try_play(trial, draw_enough(rng), calls, number, 2 * number + (size_t)draw_below(rng, GUARD));
+    try_fresh(trial);
 }
 
 void lists_group(struct trial *trial, struct rng *rng) {
@@ -340,6 +342,21 @@ static struct answer try_bare(struct trial *trial, struct slices slices, enum ca
     return expected;
 }
 
+/* Asks which items are ready, into a block of the least length. */
+static void ready_bare(struct trial *trial, struct slices s) {
+    uint16_t expected[ITEM_ROOM], *items = room(ITEM_ROOM * sizeof *items);
+    struct answer answer =
+        model_ready(&trial->shape, &trial->expected, least, expected, ITEM_ROOM);
+    taskiter_number got = taskiter_ready(s.plan, PLAN_WORDS, s.counts, COUNTS, s.values, VALUES,
+                                         items, ITEM_ROOM);
+    count_answer(trial, got.refusal);
+    if (got.refusal != answer.refusal || got.number != answer.word ||
+        memcmp(items, expected, (size_t)answer.word * sizeof *items) != 0)
+        differ(trial, "other items are ready: refusal %" PRIu64 ", number %" PRIu64, got.refusal,
+               got.number);
+    free(items);
+}
+
 /* Random steps to the end, or some hundreds. */
 static void play_bare(struct trial *trial, struct rng *rng, struct slices slices) {
     int n = trial->shape.graph.items;
@@ -348,6 +365,7 @@ static void play_bare(struct trial *trial, struct rng *rng, struct slices slices
         enum call call = draw_below(rng, 2) == 0 ? START_CALL : FINISH_CALL;
         int item = find_free(trial, rng, 2, call);
         try_bare(trial, slices, call, (uint64_t)(item < 0 ? draw_below(rng, n) : item));
+        ready_bare(trial, slices);
     }
     for (int g = 0; g < trial->shape.plan.regions; g++)
         try_bare(trial, slices, RESULT_CALL, (uint64_t)g);
@@ -402,6 +420,13 @@ static void write_bare(struct trial *trial, struct slices slices) {
     free(less);
 }
 
+/* The refusal of asking which items are ready, with room for them. */
+static uint64_t ready_refusal(struct slices s, struct lengths l) {
+    uint16_t items[ITEM_ROOM];
+    return taskiter_ready(s.plan, l.plan, s.counts, l.counts, s.values, l.values, items, ITEM_ROOM)
+        .refusal;
+}
+
 /* Slices too short, with nothing in them and nothing behind them. */
 static void try_short_bare(struct trial *trial, struct lengths lengths) {
     struct slices slices = bare_slices(lengths);
@@ -410,6 +435,8 @@ static void try_short_bare(struct trial *trial, struct lengths lengths) {
                        runtime_call((enum call)call, slices, lengths, 0));
     if (lengths.plan < PLAN_WORDS && taskiter_total(slices.plan, lengths.plan).refusal != 11)
         differ(trial, "a total is answered for a plan that is too short");
+    if (ready_refusal(slices, lengths) != 11)
+        differ(trial, "ready items are answered for a slice that is too short");
     free_slices(slices);
 }
 
@@ -450,11 +477,16 @@ static void try_null(struct trial *trial, struct slices all) {
         if (taskiter_play(s.plan, l.plan, s.counts, l.counts, s.values, l.values, NULL, 0, NULL,
                           0) != 11)
             differ(trial, "a list of no calls is accepted with a slice that is NULL");
+        if (ready_refusal(s, l) != 11 || ready_refusal(s, least) != 11)
+            differ(trial, "ready items are answered with a slice that is NULL");
     }
     taskiter_number n = taskiter_items(all.plan, PLAN_WORDS, NULL, 0),
-                    m = taskiter_edges(all.plan, PLAN_WORDS, NULL, 0);
-    if (n.refusal != 11 || m.refusal != 11 || taskiter_read(NULL, 0, NULL, 0).refusal != 11)
-        differ(trial, "items, edges or reading is accepted with a slice that is NULL");
+                    m = taskiter_edges(all.plan, PLAN_WORDS, NULL, 0),
+                    ready = taskiter_ready(all.plan, PLAN_WORDS, all.counts, COUNTS, all.values,
+                                           VALUES, NULL, ITEM_ROOM);
+    if (n.refusal != 11 || m.refusal != 11 || ready.refusal != 11 ||
+        taskiter_read(NULL, 0, NULL, 0).refusal != 11)
+        differ(trial, "items, edges, ready items or reading is accepted with a slice that is NULL");
     if (taskiter_write(NULL, 0, NULL, 0).refusal != 11 ||
         taskiter_write(all.plan, PLAN_WORDS - 1, NULL, 0).refusal != 11 ||
         taskiter_write(all.plan, PLAN_WORDS, NULL, 0).refusal != 19)

@@ -11,6 +11,8 @@
 _Static_assert(PLAN_WORDS == TASKITER_PLAN_WORDS && COUNTS == TASKITER_COUNTS &&
                    VALUES == TASKITER_VALUES,
                "sizes of docs/LAYOUT.md");
+_Static_assert(MAX_ITEMS == TASKITER_FIRST_FINISHED && FIRST_UNMET == TASKITER_FIRST_UNMET,
+               "places of docs/LAYOUT.md");
 _Static_assert(ITEM_ROOM == TASKITER_MAX_ITEMS && EDGE_ROOM == TASKITER_EDGE_NUMBERS &&
                    TEXT_BYTES == TASKITER_TEXT_BYTES,
                "sizes of docs/LAYOUT.md");
@@ -21,7 +23,8 @@ static const char *const call_names[CALLS] = {"open", "start", "finish", "result
 
 static const char *const change_names[CHANGES] = {"nothing", "an answer", "a word", "an edge",
                                                   "a line",  "a reply",   "a byte", "a total",
-                                                  "an item", "a mean",    "a count"};
+                                                  "an item", "a mean",    "a count",
+                                                  "a ready item", "a number of waits"};
 
 void differ(const struct trial *trial, const char *form, ...) {
     va_list rest;
@@ -82,10 +85,10 @@ static void change_edge(struct trial *trial, uint32_t *edges, uint64_t number) {
     *at = (uint32_t)flipped(control, *at, 32);
 }
 
-/* Changes a bit of the number of an item. */
-static void change_item(struct trial *trial, uint16_t *items, uint64_t number) {
+/* Changes a bit of one number of a list of items, where it has some. */
+static void change_item(struct trial *trial, enum change change, uint16_t *items, uint64_t number) {
     struct control *control = trial->control;
-    if (number == 0 || !makes_change(trial, CHANGED_ITEM))
+    if (number == 0 || !makes_change(trial, change))
         return;
     uint16_t *at = &items[draw_below(&control->rng, (int)number)];
     *at = (uint16_t)flipped(control, *at, 16);
@@ -115,6 +118,52 @@ uint64_t with_changed_mean(struct trial *trial, uint64_t mean) {
 
 uint64_t with_cut_count(struct trial *trial, uint64_t count) {
     return count > UINT32_MAX && makes_change(trial, CHANGED_COUNT) ? (uint32_t)count : count;
+}
+
+void put_number(struct trial *trial, int item, uint64_t number) {
+    int at = FIRST_UNMET + item;
+    trial->lent.counts[at] = trial->expected.counts[at] = number;
+}
+
+/* Counts the unmet waits of each item over all edges. The source of an edge is an instance that is
+   made and has not finished. Pass −1, before an item's first, is none. */
+static void count_waits(const struct shape *shape, const uint64_t *counts, uint64_t *numbers) {
+    const struct graph *graph = &shape->graph;
+    int64_t made[MAX_ITEMS], done[MAX_ITEMS];
+    for (int a = 0; a < graph->items; a++) {
+        numbers[a] = 0;
+        made[a] = (int64_t)own_passes(&shape->plan, &graph->item[a]);
+        done[a] = (int64_t)counts[MAX_ITEMS + a];
+    }
+    for (int e = 0; e < graph->edges; e++) {
+        int from = graph->edge[e].from, to = graph->edge[e].to;
+        int64_t source = done[to] - graph->edge[e].distance;
+        numbers[to] += done[to] < made[to] && done[from] <= source && source < made[from];
+    }
+}
+
+void put_fresh_numbers(struct trial *trial) {
+    uint64_t numbers[MAX_ITEMS];
+    count_waits(&trial->shape, trial->lent.counts, numbers);
+    for (int a = 0; a < trial->shape.graph.items; a++)
+        put_number(trial, a, numbers[a]);
+}
+
+/* The lent number of an item, as it is or, in a control run, with a bit changed. */
+static uint64_t number_of(struct trial *trial, int item) {
+    uint64_t number = trial->lent.counts[FIRST_UNMET + item];
+    return makes_change(trial, CHANGED_WAITS) ? flipped(trial->control, number, 64) : number;
+}
+
+void try_fresh(struct trial *trial) {
+    uint64_t fresh[MAX_ITEMS];
+    count_waits(&trial->shape, trial->lent.counts, fresh);
+    for (int a = 0; a < trial->shape.graph.items; a++) {
+        uint64_t number = number_of(trial, a);
+        if (number != fresh[a])
+            differ(trial, "item %d has the number %" PRIu64 ", a fresh count is %" PRIu64, a,
+                   number, fresh[a]);
+    }
 }
 
 void count_answer(struct trial *trial, uint64_t refusal) {
@@ -198,6 +247,8 @@ struct answer try_call(struct trial *trial, enum call call, struct lengths lengt
     struct answer got = runtime_call(call, slices, lengths, number);
     compare_answer(trial, call, number, expected, got);
     compare_memory(trial, call_names[call]);
+    if (call == OPEN_CALL && expected.refusal == 0)
+        try_fresh(trial);
     return expected;
 }
 
@@ -298,9 +349,27 @@ void try_items(struct trial *trial, size_t plan_length, size_t items_length) {
                        (item->kind == TASK ? item->task : item->region));
     }
     taskiter_number got = taskiter_items(trial->lent.plan, plan_length, lent + GUARD, items_length);
-    change_item(trial, lent + GUARD, got.number);
+    change_item(trial, CHANGED_ITEM, lent + GUARD, got.number);
     compare_number(trial, "items", refusal, refusal == 0 ? (uint64_t)graph->items : 0, got);
     compare_bytes(trial, "the items", expected, lent, sizeof lent);
+}
+
+struct answer try_ready(struct trial *trial, struct lengths l, size_t items_length,
+                        uint16_t *listed) {
+    static uint16_t lent[GUARD + ITEM_ROOM + GUARD], expected[GUARD + ITEM_ROOM + GUARD];
+    memset(lent, (int)trial->calls, sizeof lent);
+    memcpy(expected, lent, sizeof lent);
+    struct answer answer =
+        model_ready(&trial->shape, &trial->expected, l, expected + GUARD, items_length);
+    taskiter_number got =
+        taskiter_ready(trial->lent.plan, l.plan, trial->lent.counts, l.counts, trial->lent.values,
+                       l.values, items_length > 0 ? lent + GUARD : NULL, items_length);
+    change_item(trial, CHANGED_READY, lent + GUARD, got.number);
+    compare_number(trial, "ready", answer.refusal, answer.word, got);
+    compare_bytes(trial, "the ready items", expected, lent, sizeof lent);
+    if (listed != NULL)
+        memcpy(listed, lent + GUARD, (size_t)answer.word * sizeof *listed);
+    return answer;
 }
 
 void try_edges(struct trial *trial, size_t plan_length, size_t edges_length) {

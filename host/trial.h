@@ -13,8 +13,8 @@ enum { LAST_REFUSAL = 19, ITEM_ROOM = MAX_ITEMS, EDGE_ROOM = 3 * MAX_EDGES, LIST
 
 /* What a control run changes once, between the runtime and the comparison: an answer, a word of the
    lent state after a call, an edge, the line that reading answers, a word of a list's answers, a
-   byte of a written text, a total of steps, an item's number, a mean that is known, or a count
-   above 2^32. */
+   byte of a written text, a total of steps, an item's number, a mean that is known, a count above
+   2^32, one of the items that are ready, or a number of unmet waits. */
 enum change {
     NO_CHANGE,
     CHANGED_ANSWER,
@@ -27,6 +27,8 @@ enum change {
     CHANGED_ITEM,
     CHANGED_MEAN,
     CHANGED_COUNT,
+    CHANGED_READY,
+    CHANGED_WAITS,
     CHANGES
 };
 
@@ -99,6 +101,15 @@ uint64_t with_changed_mean(struct trial *trial, uint64_t mean);
 /* A count, as it is or, in a control run, without its upper half, which is not 0. */
 uint64_t with_cut_count(struct trial *trial, uint64_t count);
 
+/* Puts the number of unmet waits of one item into both memories, or those of all items, counted
+   over the edges by the finished passes that stand there. */
+void put_number(struct trial *trial, int item, uint64_t number);
+void put_fresh_numbers(struct trial *trial);
+
+/* Compares the lent numbers of unmet waits with a count over the edges, which does not go by the
+   model: the same after every call from an opening on. */
+void try_fresh(struct trial *trial);
+
 /* Counts the answer of a call. */
 void count_answer(struct trial *trial, uint64_t refusal);
 
@@ -110,7 +121,8 @@ struct answer runtime_call(enum call call, struct slices slices, struct lengths 
 void compare_answer(struct trial *trial, enum call call, uint64_t number, struct answer expected,
                     struct answer got);
 
-/* Makes a call on the memories and compares them; gives the answer of both. */
+/* Makes a call on the memories and compares them; gives the answer of both. After an accepted
+   opening the numbers of unmet waits are tried too. */
 struct answer try_call(struct trial *trial, enum call call, struct lengths lengths,
                        uint64_t number);
 
@@ -118,6 +130,11 @@ struct answer try_call(struct trial *trial, enum call call, struct lengths lengt
    them, with the answers in a slice of their own. Gives the refusal of the whole. */
 uint64_t try_play(struct trial *trial, struct lengths lengths, const uint64_t *calls, size_t number,
                   size_t answers_length);
+
+/* Asks which items are ready, into a slice of its own that is compared whole; gives the answer of
+   both. `listed` gets the items where it is accepted, and may be NULL. */
+struct answer try_ready(struct trial *trial, struct lengths lengths, size_t items_length,
+                        uint16_t *listed);
 
 /* Reads a text into the memories' plans and compares; the shape is that of the new words where the
    text is accepted. */

@@ -1,9 +1,10 @@
 /* A host with workers: workers [NUMBER [FILE|- [SEED]]], 16 if no number is given. An item runs on
    a worker of its rank, one at a time, and finishes after a random number of ticks; so many run at
-   once, and finishes come in any order. Each rank has a queue of items to try. An item whose start
-   is refused leaves it, and comes back when something that it waits for has finished, by the edges.
-   The calls come one after another. Prints the steps taken, the tries refused, the most items that
-   ran at once, the ticks and the values. Exit status 0 where each word and value is the unrolled
+   once, and finishes come in any order. A worker that is idle takes an item of its ranks from the
+   list of those that are ready. The list is asked for anew after a finish; a start takes its own
+   item off it and no other. So no start is refused. The calls come one after another. Prints the
+   steps taken, how often the list was asked for, the most items that ran at once, the ticks and the
+   values. Exit status 0 where no step was refused, and each word and value is the unrolled
    loop's. */
 #include <inttypes.h>
 #include <stdio.h>
@@ -18,40 +19,13 @@ struct worker {
     int item, ticks;
 };
 
-/* Items to try, first in, first out; no item stands in it twice. */
-struct queue {
-    int first, length, item[TASKITER_MAX_ITEMS];
-};
-
 static struct play play;
 static struct rng rng;
 static struct worker worker[MOST_WORKERS];
-static struct queue queue[MAX_RANKS];
-static bool queued[TASKITER_MAX_ITEMS];
 static int workers, running, most_running;
 
-static void put_item(int item) {
-    struct queue *at = &queue[play_rank(&play, item)];
-    if (queued[item])
-        return;
-    queued[item] = true;
-    at->item[(at->first + at->length++) % TASKITER_MAX_ITEMS] = item;
-}
-
-static int take_item(struct queue *from) {
-    int item = from->item[from->first];
-    from->first = (from->first + 1) % TASKITER_MAX_ITEMS;
-    from->length--;
-    queued[item] = false;
-    return item;
-}
-
-/* Queues the items that wait for this one: itself too, by its edge to its next pass. */
-static void put_successors(int item) {
-    for (int e = 0; e < play.edges; e++)
-        if (play.edge[3 * e] == (uint32_t)item)
-            put_item((int)play.edge[3 * e + 1]);
-}
+/* Whether the list of ready items is that of a state before the last finish. */
+static bool stale = true;
 
 /* Whether a worker serves a rank: with fewer workers than ranks one serves several, with more
    several serve one. */
@@ -59,17 +33,29 @@ static bool serves(int w, int rank) {
     return rank % workers == w % play.plan.ranks;
 }
 
-/* Lets a worker try the items of its ranks until one starts. */
-static void seek_item(int w) {
-    for (int q = 0; q < play.plan.ranks; q++)
-        while (serves(w, q) && queue[q].length > 0) {
-            int item = take_item(&queue[q]);
-            if (play_start(&play, item) == 0) {
-                worker[w] = (struct worker){item, 1 + draw_below(&rng, MOST_TICKS)};
-                most_running = ++running > most_running ? running : most_running;
-                return;
-            }
+/* Takes an item of the worker's ranks off the list of ready items; IDLE where it has none. */
+static int take_item(int w) {
+    for (int k = 0; k < play.readies; k++) {
+        int item = play.ready[k];
+        if (serves(w, play_rank(&play, item))) {
+            play.ready[k] = play.ready[--play.readies];
+            return item;
         }
+    }
+    return IDLE;
+}
+
+/* Lets a worker start an item that is ready, where there is one of its ranks. */
+static void seek_item(int w) {
+    if (stale)
+        play.differ += play_ready(&play) != 0;
+    stale = false;
+    int item = take_item(w);
+    if (item == IDLE)
+        return;
+    play.differ += play_start(&play, item) != 0;
+    worker[w] = (struct worker){item, 1 + draw_below(&rng, MOST_TICKS)};
+    most_running = ++running > most_running ? running : most_running;
 }
 
 /* One tick of a worker: it seeks an item, or goes on with the one it has and finishes it in
@@ -79,7 +65,7 @@ static void work(int w) {
         seek_item(w);
     } else if (--worker[w].ticks == 0) {
         play.differ += play_finish(&play, worker[w].item) != 0;
-        put_successors(worker[w].item);
+        stale = true;
         worker[w].item = IDLE;
         running--;
     }
@@ -111,10 +97,8 @@ int main(int argc, char **argv) {
         return 1;
     for (int w = 0; w < workers; w++)
         worker[w].item = IDLE;
-    for (int a = 0; a < play.items; a++)
-        put_item(a);
     long ticks = run_ticks();
-    printf("items %d\nsteps %" PRIu64 "\nrefused tries %" PRIu64 "\nat once %d\nticks %ld\n",
-           play.items, play.steps, play.refused, most_running, ticks);
+    printf("items %d\nsteps %" PRIu64 "\nlists %" PRIu64 "\nat once %d\nticks %ld\n", play.items,
+           play.steps, play.lists, most_running, ticks);
     return play_end(&play);
 }

@@ -34,7 +34,8 @@
        left them.
    Words that reading leaves for no text, and counts out of form (docs/LAYOUT.md), are refused with
    12. A state that was never opened, or belongs to another plan, may pass this test, as one of
-   zeros does.
+   zeros does. So may one that an earlier version left: it has no numbers of unmet waits, and is
+   judged by the words that stand in their place (docs/HOST.md, "Numbers of unmet waits").
 
    An answer carries a refusal number. 0 says that the call is accepted, and only then is the word
    to be used. A refused call changes nothing, with one exception: where taskiter_read refuses a
@@ -46,7 +47,7 @@
       4  `begin` while a task is open                  13  item or region number too large
       5  an access or `end` with no task open          14  start: no pass left to finish
       6  a region named twice                          15  start: the item is running
-      7  the text ends with a task open                16  start: a source has not finished
+      7  the text ends with a task open                16  start: the item has unmet waits
       8  the text ends with no task                    17  finish: the item is not running
       9  wrong number of reads for the kernel          18  result: the loop is not complete
      10  too long, too many tasks, accesses or         19  write: the text slice is too short for
@@ -67,7 +68,7 @@ extern "C" {
    names. So a host asks once, before its other calls, whether taskiter_version answers
    TASKITER_VERSION: then the runtime that it is linked with has the version of the header that it
    was compiled with. CHANGELOG.md says what each version changes. */
-#define TASKITER_VERSION 4
+#define TASKITER_VERSION 5
 uint64_t taskiter_version(void);
 
 /* A text has at most so many bytes. It has no NUL at its end: one that is counted is a line not in
@@ -77,15 +78,23 @@ uint64_t taskiter_version(void);
 /* The least lengths of the lent slices, in elements: the same for all plans. What lies behind them
    is neither read nor changed. */
 #define TASKITER_PLAN_WORDS 1668 /* uint64_t: 13,344 bytes */
-#define TASKITER_COUNTS 1280     /* TASKITER_COUNT_TYPE: 10,240 bytes */
+#define TASKITER_COUNTS 1920     /* TASKITER_COUNT_TYPE: 15,360 bytes */
 #define TASKITER_VALUES 3328     /* uint64_t: 26,624 bytes */
 
 /* The longest text that taskiter_write writes, in bytes. A text slice of this length is enough for
    every plan; a shorter one is enough for a plan whose text it holds. */
 #define TASKITER_TEXT_BYTES 18732
 
-/* The type of a count of passes: a plan has at most 1,000,000,000,000. Hosts use this name. */
+/* The type of a count: a plan has at most 1,000,000,000,000 passes. Hosts use this name. */
 #define TASKITER_COUNT_TYPE uint64_t
+
+/* In the counts item a has its started passes at a, its finished passes at TASKITER_FIRST_FINISHED
+   + a, and at TASKITER_FIRST_UNMET + a its number of unmet waits: how many of its waits for the
+   first pass that it has not finished are unmet, 0 once its passes are done. Opening sets the
+   numbers, each finish moves them on, and a start goes by its item's own. A number above the number
+   of items is out of form. */
+#define TASKITER_FIRST_FINISHED 640
+#define TASKITER_FIRST_UNMET 1280
 
 /* No plan has more items than this: their numbers lie below it. */
 #define TASKITER_MAX_ITEMS 640
@@ -167,23 +176,27 @@ taskiter_number taskiter_edges(const uint64_t *plan, size_t plan_length, uint32_
    0. Changes nothing. */
 taskiter_number taskiter_total(const uint64_t *plan, size_t plan_length);
 
-/* Opens a state for the plan: every copy gets its starting value, and counts, slots and held words
-   become 0. What the plan does not use of the state is left as it is. Answers the refusal, 11 or 12
-   (of the plan alone), or 0. A state may be opened again at any time. */
+/* Opens a state for the plan: every copy gets its starting value, passes, slots and held words
+   become 0, and the unmet waits of each item are counted. What the plan does not use of the state
+   is left as it is. Answers the refusal, 11 or 12 (of the plan alone), or 0. A state may be opened
+   again at any time. */
 uint64_t taskiter_open(const uint64_t *plan, size_t plan_length, TASKITER_COUNT_TYPE *counts,
                        size_t counts_length, uint64_t *values, size_t values_length);
 
 /* Starts the next pass of an item: it reads its places, and answers the word that it computes,
    which it holds for the finish. A send or receive answers the word that it carries. Refused for 11
    to 16. 14 says that the item has finished its own passes: those of a wrapped transfer have none
-   in the last pass of the plan. After 16 the same start is accepted once those that it waits for
-   have finished. */
+   in the last pass of the plan. 16 says that the item's number of unmet waits is not 0; no other
+   number is looked at but for 12, and none is changed. From an opening on the number is that of the
+   sources which have not finished, so after 16 the same start is accepted once they have. */
 taskiter_answer taskiter_start(const uint64_t *plan, size_t plan_length,
                                TASKITER_COUNT_TYPE *counts, size_t counts_length, uint64_t *values,
                                size_t values_length, uint64_t item);
 
 /* Finishes the pass that an item is in: the word held goes to the places that the item writes, and
-   is answered once more. Refused for 11, 12, 13 or 17. */
+   is answered once more. One is taken off the number of unmet waits of each other item whose wait
+   it meets, a 0 staying 0, and the item's own are counted anew for its next pass. Refused for 11,
+   12, 13 or 17. */
 taskiter_answer taskiter_finish(const uint64_t *plan, size_t plan_length,
                                 TASKITER_COUNT_TYPE *counts, size_t counts_length, uint64_t *values,
                                 size_t values_length, uint64_t item);
@@ -193,6 +206,17 @@ taskiter_answer taskiter_finish(const uint64_t *plan, size_t plan_length,
 taskiter_answer taskiter_result(const uint64_t *plan, size_t plan_length,
                                 const TASKITER_COUNT_TYPE *counts, size_t counts_length,
                                 const uint64_t *values, size_t values_length, uint64_t region);
+
+/* The items whose start is accepted now. Their numbers stand at the front of a slice of at least
+   TASKITER_MAX_ITEMS, rising, and the answer is how many they are; what lies behind them is left as
+   it is. A start takes its own item off the list and leaves the others; a finish can only add to
+   it. From an opening on, where the list is empty an item runs or the loop is complete. Refused for
+   11, where a slice is too short, that for the items too, or for 12, as a start is; then the number
+   is 0 and nothing is changed. */
+taskiter_number taskiter_ready(const uint64_t *plan, size_t plan_length,
+                               const TASKITER_COUNT_TYPE *counts, size_t counts_length,
+                               const uint64_t *values, size_t values_length, uint16_t *items,
+                               size_t items_length);
 
 /* A call of a list, in one word: 3 times its number, and which call it is. The number lies below
    6,148,914,691,236,517,205, as those of all items and regions do; of a larger one the word may be
@@ -299,6 +323,18 @@ static inline taskiter_answer taskiter_result_lent(const uint64_t *plan, size_t 
                            region);
 }
 
+static inline taskiter_number taskiter_ready_lent(const uint64_t *plan, size_t plan_length,
+                                                  const TASKITER_COUNT_TYPE *counts,
+                                                  size_t counts_length, const uint64_t *values,
+                                                  size_t values_length, uint16_t *items,
+                                                  size_t items_length) {
+    taskiter_number refused = {11, 0};
+    if (plan == NULL || counts == NULL || values == NULL || items == NULL)
+        return refused;
+    return taskiter_ready(plan, plan_length, counts, counts_length, values, values_length, items,
+                          items_length);
+}
+
 static inline uint64_t taskiter_play_lent(const uint64_t *plan, size_t plan_length,
                                           TASKITER_COUNT_TYPE *counts, size_t counts_length,
                                           uint64_t *values, size_t values_length,
@@ -322,6 +358,7 @@ static inline uint64_t taskiter_play_lent(const uint64_t *plan, size_t plan_leng
 #define taskiter_start(...) taskiter_start_lent(__VA_ARGS__)
 #define taskiter_finish(...) taskiter_finish_lent(__VA_ARGS__)
 #define taskiter_result(...) taskiter_result_lent(__VA_ARGS__)
+#define taskiter_ready(...) taskiter_ready_lent(__VA_ARGS__)
 #define taskiter_play(...) taskiter_play_lent(__VA_ARGS__)
 
 #ifdef __cplusplus
