@@ -8,7 +8,7 @@ use mathlib.Core.List.{List, []}
 use mathlib.Core.Option.{Option, none, some}
 use native.Mathlib.Numerals.{add-one}
 use native.Mathlib.Omega.{arith}
-use borrow.Author.Tests.{eqb-true, ltb-true, leb-true, eq-eqb, ne-eqb, lt-ltb, le-ltb, le-leb, not-true, not-false}
+use borrow.Author.Tests.{eqb-true, ltb-true, eq-eqb, ne-eqb, lt-ltb, le-ltb, le-leb, not-true, not-false}
 use lib.Dec.{eqb, ltb, leb}
 use lib.ListN.{length, getD, set, take}
 use Rattle.finite.specs.Below.{allBelow, sumBelow}
@@ -134,10 +134,10 @@ module _ (w C table : List ℕ) (n : ℕ) (K : Clear w C table n) (W : List ℕ)
     item-below : a < n
     item-below = omega (arith, at)
 
-    abbrev tests : ℕ
+    abbrev pub tests : ℕ
     tests = startTests (bodyOf w) (stateOf C W) (unmetBy C a) a
 
-    start-tested : startOf w C W item ≡ cond (eqb tests 0) (started w C W a) (refused w C W tests)
+    pub start-tested : startOf w C W item ≡ cond (eqb tests 0) (started w C W a) (refused w C W tests)
     unfolding startOf
     start-tested = rw (call-is (isItem w item), item-is item, lt-ltb item n below, whole w table n G, ← at)
 

@@ -7,6 +7,7 @@ pub mod doors;
 pub mod drawing;
 pub mod finishes;
 pub mod openings;
+pub mod ready;
 pub mod results;
 pub mod starts;
 pub mod totals;

@@ -1,5 +1,5 @@
--- The numbers from k on, and a list with other values at places from k on: -none, -more and -done are
--- a loop's, before its first turn, over a turn, and after its last.
+-- The numbers from k on, and a list with other values at places from k on. -none, -more and -done
+-- are a loop's: before its first turn, over a turn, and after its last.
 use Prim.Native.Nat.{ℕ, _+_, _≤_, _<_}
 use mathlib.Core.Path.{_≡_, sym, _∙_, ap}
 use mathlib.Core.Bool.{Bool, false, _&&_, _||_, and-false}

@@ -1,8 +1,8 @@
 use Prim.Native.Nat.{_+_, _-_, _≤_}
-use mathlib.Core.Path.{_≡_, _∙_, sym, ap}
+use mathlib.Core.Path.{_≡_, sym, ap}
 use native.Mathlib.Omega.{arith}
+use borrow.Author.Needs.{needs}
 use denote.Ref.{now}
-use lib.ListN.{length}
 use Rattle.finite.specs.Below.{countBelow}
 use Rattle.finite.proofs.Below.{count-none}
 use Rattle.body.specs.Places.{system}
@@ -13,7 +13,6 @@ use Rattle.plan.specs.Layout.{bodyOf}
 use Rattle.graph.proofs.Lookup.{passes-most, codes-few, own-passes, body-fits}
 use Rattle.steps.specs.State.{doneBy}
 use Rattle.unmet.proofs.Marking.{count-turn, count-end}
-use borrow.Author.Needs.{needs}
 use Rattle.unmet.proofs.finishes.count_unmet.Statement.{statement}
 use Rattle.unmet.proofs.finishes.count_unmet.Tie as tie
 

@@ -1,6 +1,6 @@
 use mathlib.Core.Path.{_∙_}
-use Rattle.unmet.proofs.Marking.{distance-by}
 use borrow.Author.Needs.{needs}
+use Rattle.unmet.proofs.Marking.{distance-by}
 use Rattle.unmet.proofs.finishes.distance_of.Statement.{statement}
 use Rattle.unmet.proofs.finishes.distance_of.Tie as tie
 

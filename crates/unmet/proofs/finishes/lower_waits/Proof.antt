@@ -1,6 +1,7 @@
 use Prim.Native.Nat.{_+_, _-_, _≤_}
 use mathlib.Core.Path.{_≡_, _∙_, ap}
 use native.Mathlib.Omega.{arith}
+use borrow.Author.Needs.{needs}
 use denote.Ref.{now}
 use lib.ListN.{length}
 use Rattle.body.specs.Places.{system}
@@ -12,7 +13,6 @@ use Rattle.plan.specs.Layout.{bodyOf}
 use Rattle.graph.proofs.Lookup.{passes-most, codes-few, own-passes}
 use Rattle.steps.specs.State.{doneBy}
 use Rattle.unmet.proofs.Marking.{lower-turn}
-use borrow.Author.Needs.{needs}
 use Rattle.unmet.proofs.finishes.lower_waits.Statement.{statement}
 use Rattle.unmet.proofs.finishes.lower_waits.Tie as tie
 

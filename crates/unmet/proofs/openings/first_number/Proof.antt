@@ -1,11 +1,11 @@
 use mathlib.Core.Path.{sym}
 use native.Mathlib.Omega.{arith}
+use borrow.Author.Needs.{needs}
 use denote.Ref.{now}
 use Rattle.waits.proofs.Unmet.{count-done}
 use Rattle.plan.specs.Layout.{bodyOf}
 use Rattle.graph.proofs.Lookup.{passes-most, codes-few, own-passes, body-fits}
 use Rattle.unmet.proofs.Opening.{first-count}
-use borrow.Author.Needs.{needs}
 use Rattle.unmet.proofs.openings.first_number.Statement.{statement}
 use Rattle.unmet.proofs.openings.first_number.Tie as tie
 

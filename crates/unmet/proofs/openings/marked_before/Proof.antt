@@ -1,10 +1,10 @@
 use Prim.Native.Nat.{_-_, _≤_}
 use mathlib.Core.Path.{_≡_, refl}
+use borrow.Author.Needs.{needs}
 use lib.Dec.{eqb}
 use lib.ListN.{getD}
 use Rattle.finite.specs.Below.{countBelow}
 use Rattle.finite.proofs.Below.{count-none, count-more, count-done}
-use borrow.Author.Needs.{needs}
 use Rattle.unmet.proofs.openings.marked_before.Statement.{statement}
 use Rattle.unmet.proofs.openings.marked_before.Tie as tie
 

@@ -1,6 +1,7 @@
 use Prim.Native.Nat.{_-_, _≤_}
 use mathlib.Core.Path.{_≡_}
 use native.Mathlib.Omega.{arith}
+use borrow.Author.Needs.{needs}
 use denote.Ref.{now}
 use lib.ListN.{length, length-set}
 use Rattle.finite.specs.Update.{replaced}
@@ -9,7 +10,6 @@ use Rattle.plan.specs.Sizes.{firstUnmet}
 use Rattle.plan.specs.Layout.{bodyOf}
 use Rattle.steps.specs.Answers.{openCount}
 use Rattle.unmet.proofs.Opening.{open-number}
-use borrow.Author.Needs.{needs}
 use Rattle.unmet.proofs.openings.open_numbers.Statement.{statement}
 use Rattle.unmet.proofs.openings.open_numbers.Tie as tie
 
