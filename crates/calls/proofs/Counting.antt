@@ -156,9 +156,9 @@ open-passes : (B : Body) (n i : ℕ) → n ≤ maxItems → countsBelow n i ≡ 
 unfolding openCount
 open-passes B n i few e =
     let l : i < firstUnmet = ⊎-elim
-        (λ t. omega (arith, ltb-true i n t))
-        (λ t. omega (arith, ltb-true i (firstFinished + n) (and-true (leb firstFinished i) (ltb i (firstFinished + n)) t .1)))
-        (or-cases (ltb i n) (within firstFinished n i) e)
+    (λ t. omega (arith, ltb-true i n t))
+    (λ t. omega (arith, ltb-true i (firstFinished + n) (and-true (leb firstFinished i) (ltb i (firstFinished + n)) t .1)))
+    (or-cases (ltb i n) (within firstFinished n i) e)
     in
     rw (lt-leb firstUnmet i l)
 

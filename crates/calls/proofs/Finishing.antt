@@ -52,13 +52,13 @@ module _ (w table : List ℕ) (n a : ℕ) (G : Graph w table n) (la : a < n) (C 
       let s : doneBy L a + 1 ≡ suc (doneBy C a) = omega (arith, lowered-passes a la) in
       let m : D ≡ set L (firstFinished + a) (suc (doneBy C a)) = d ∙ ap (λ (v : ℕ). set L (firstFinished + a) v) s in
       let k : number ≡ freshCount (system (bodyOf w)) (edgeTest (bodyOf w)) (update (doneBy C) a (suc (doneBy C a))) a =
-          f
-          ∙ (ap (λ (x : List ℕ). freshCount (system (bodyOf w)) (edgeTest (bodyOf w)) (doneBy x) a) m
-          ∙ count-agree (system (bodyOf w)) (edgeTest (bodyOf w)) (doneBy (set L (firstFinished + a) (suc (doneBy C a)))) (update (doneBy C) a (suc (doneBy C a))) a
-          (omega (arith, G .count)) (λ c l. counted-passes c (omega (arith, G .count))))
+      f
+      ∙ (ap (λ (x : List ℕ). freshCount (system (bodyOf w)) (edgeTest (bodyOf w)) (doneBy x) a) m
+      ∙ count-agree (system (bodyOf w)) (edgeTest (bodyOf w)) (doneBy (set L (firstFinished + a) (suc (doneBy C a)))) (update (doneBy C) a (suc (doneBy C a))) a
+      (omega (arith, G .count)) (λ c l. counted-passes c (omega (arith, G .count))))
       in
       let l : L ≡ loweredTo (system (bodyOf w)) (edgeTest (bodyOf w)) firstUnmet (doneBy C) a (itemCount (bodyOf w)) C =
-          e ∙ ap (λ (j : ℕ). loweredTo (system (bodyOf w)) (edgeTest (bodyOf w)) firstUnmet (doneBy C) a j C) (G .count)
+      e ∙ ap (λ (j : ℕ). loweredTo (system (bodyOf w)) (edgeTest (bodyOf w)) firstUnmet (doneBy C) a j C) (G .count)
       in
       ap (λ (x : List ℕ). set x (firstUnmet + a) number) m
       ∙ (set-comm L (firstFinished + a) (firstUnmet + a) (suc (doneBy C a)) number (λ q. omega arith)

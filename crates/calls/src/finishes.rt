@@ -46,13 +46,7 @@ pub fn write_item(plan: &[u64], code: u64, a: usize, values: &mut [u64]) -> u64
 
 // Counts a finish of item a: one off the numbers of the items whose wait it meets, and its own
 // number afresh.
-fn count_finish(
-    plan: &[u64],
-    table: &[u16; MAX_ITEMS],
-    n: usize,
-    a: usize,
-    counts: &mut [Count],
-)
+fn count_finish(plan: &[u64], table: &[u16; MAX_ITEMS], n: usize, a: usize, counts: &mut [Count])
     requires { ⌜
         Graph (now plan) (now table) n × (a < n) × (countWords ≤ length (now counts)) × (doneBy (now counts) a < maxPasses)
         ⌝ }

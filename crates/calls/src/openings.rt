@@ -7,9 +7,9 @@ ghost use Rattle.graph.specs.Table.{Graph};
 ghost use Rattle.steps.specs.Answers.{openOf};
 ghost use Rattle.calls.specs.Told.{toldOpening};
 use crate::counts::clear_counts;
+use open_waits::open_numbers;
 use plan::state::Count;
 use plan::state::MAX_ITEMS;
-use unmet::openings::open_numbers;
 use values::openings::open_values;
 
 // Every copy to its starting value; passes, slots and held words to 0; the unmet waits are counted.

@@ -58,7 +58,12 @@ pub fn ready_clear(
     let mut a: usize = 0;
     while a < n {
         let own = own_passes(passes, table[a]);
-        let ready = may_start(own, counts[a], counts[FIRST_FINISHED + a], counts[FIRST_UNMET + a]);
+        let ready = may_start(
+            own,
+            counts[a],
+            counts[FIRST_FINISHED + a],
+            counts[FIRST_UNMET + a],
+        );
         at = put_item(items, at, a, ready);
         a += 1;
     }

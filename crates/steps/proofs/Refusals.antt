@@ -294,8 +294,13 @@ module _ (plan counts values : List ℕ) where
           let h = start-16-number .0 e in
           (h .0, h .1, h .2, h .3, λ r. omega (arith, e, start-rule plan counts values (h .0) f a .1 r)),
       λ h.
-          start-16-number .1 (h .0, h .1, h .2, h .3,
-          λ z. h .4 (start-rule plan counts values (h .0) f a .0 (start-turn plan counts values (h .0) a .1 (h .1, (h .2, h .3, z))))),
+          start-16-number .1 (
+            h .0,
+            h .1,
+            h .2,
+            h .3,
+            λ z. h .4 (start-rule plan counts values (h .0) f a .0 (start-turn plan counts values (h .0) a .1 (h .1, (h .2, h .3, z)))),
+          ),
     )
 
     pub finish-17 : (finishOf plan counts values a .refusal ≡ 17) ↔ (Clear plan counts values × (a < itemCount (planBody plan)) × (now .started a ≡ now .finished a))

@@ -102,8 +102,10 @@ module _ (plan : List ℕ) (formed : formedPlan plan ≡ true) (counts values : 
         long-counts = omega (arith, length-replaced (isCount (planBody plan)) (openCount (planBody plan)) counts);
         long-values = omega (arith, length-replaced (λ x. isCopy (planBody plan) x || (isSlot (planBody plan) x || isHeld (planBody plan) x)) (initial (planBody plan)) values);
         formed = formed-counts plan (opened plan counts values .counts) (opened plan counts values .values) .1
-            (λ a l. (omega (arith, opened-finished plan counts values few long-counts a l),
-            inl (opened-started plan counts values few long-counts a l ∙ sym (opened-finished plan counts values few long-counts a l))));
+            (λ a l. (
+              omega (arith, opened-finished plan counts values few long-counts a l),
+              inl (opened-started plan counts values few long-counts a l ∙ sym (opened-finished plan counts values few long-counts a l)),
+            ));
         fresh = opened-fresh plan counts values few long-counts;
         agree = record {
           started = opened-started plan counts values few long-counts;

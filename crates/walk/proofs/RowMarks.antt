@@ -72,11 +72,11 @@ abbrev touchFrom : Body → ℕ → ℕ → ℕ → ℕ
 touchFrom B a b = touchOn B (rankAt B a) b
 
 module _ (B : Body) where
-  own-touch : (a g : ℕ) → touchFrom B a a g ≡ touch B (itemAt B a) g
+  pub own-touch : (a g : ℕ) → touchFrom B a a g ≡ touch B (itemAt B a) g
   unfolding touchOn
   own-touch a g = rw (eq-eqb (rankAt B a) (rankAt B a) refl)
 
-  other-touch : (q a g : ℕ) → (rankAt B a ≡ q → ⊥) → touchOn B q a g ≡ 0
+  pub other-touch : (q a g : ℕ) → (rankAt B a ≡ q → ⊥) → touchOn B q a g ≡ 0
   unfolding touchOn
   other-touch q a g h = rw (ne-eqb (rankAt B a) q h)
 
@@ -246,7 +246,7 @@ module _ (B : Body) (F : Fits B) where
     paired-partner b ne = pair-partner (kindAt B a) a b receive-above ne
 
     -- the test of another item than a, by the mark of the partner and that of copies
-    test-other : (back : Bool) (b : ℕ) → b < itemCount B → (b ≡ a → ⊥) →
+    pub test-other : (back : Bool) (b : ℕ) → b < itemCount B → (b ≡ a → ⊥) →
         cond back (edgeTest B b a) (edgeTest B a b) ≡ (eqb b (partnerOf (kindAt B a) a) || cond back (copyEdge B b a) (copyEdge B a b))
     unfolding edgeTest
     test-other true b lb ne = rw (ne-eqb b a ne, pair-swap a b la lb, paired-partner b ne)

@@ -35,10 +35,10 @@ module _ (w items : List ℕ) (n : ℕ) (G : Graph w items n) (a : ℕ) (below :
       (λ g k. rw (ne-eqb (rankAt (bodyOf w) a) q (λ o. h (r ∙ (code-rank w items n G a below code e ∙ o)))))
 
   module _ (kind s : ℕ) (k : kind ≡ codeKind code) (f : s ≡ codeSubject code) where
-    touch-task : kind ≡ 0 → (g : ℕ) → touch (bodyOf w) (task s) g ≡ touch (bodyOf w) (itemAt (bodyOf w) a) g
+    pub touch-task : kind ≡ 0 → (g : ℕ) → touch (bodyOf w) (task s) g ≡ touch (bodyOf w) (itemAt (bodyOf w) a) g
     touch-task z g = ap (λ (x : Item). touch (bodyOf w) x g) (ap task f ∙ sym (code-task w items n G a below code e (sym k ∙ z)))
 
-    touch-region : (kind ≡ 0 → ⊥) → (g : ℕ) → only s kind g ≡ touch (bodyOf w) (itemAt (bodyOf w) a) g
+    pub touch-region : (kind ≡ 0 → ⊥) → (g : ℕ) → only s kind g ≡ touch (bodyOf w) (itemAt (bodyOf w) a) g
     touch-region z g =
         rw (k, f, code-kind w items n G a below code e, code-subject w items n G a below code e)
         (sym (touch-one (bodyOf w) (itemAt (bodyOf w) a) g (λ o. z (k ∙ (code-kind w items n G a below code e ∙ o)))))

@@ -48,8 +48,8 @@ loop-again c =
     let l = now (s .args .counts) in
     let has = own-passes _ _ _ G _ (counted .pass-count .ensures .0) (turn .loop .a) (own .before .before .loop-test .taken) _ (own .own-passes .ensures) in
     let e =
-        lower-turn (bodyOf w) (s .args .n) (now (s .args .marks)) (s .args .b) (turn .loop .a) l _ _ _ _ (s .pre .1) (own .before .before .loop-test .taken) (G .most) (s .pre .3)
-        (turn .loop .inv .2) has (ap (λ k. doneBy l (s .args .b) + k) (far .distance-of .ensures .0)) (lowered .lower-number .ensures)
+    lower-turn (bodyOf w) (s .args .n) (now (s .args .marks)) (s .args .b) (turn .loop .a) l _ _ _ _ (s .pre .1) (own .before .before .loop-test .taken) (G .most) (s .pre .3)
+    (turn .loop .inv .2) has (ap (λ k. doneBy l (s .args .b) + k) (far .distance-of .ensures .0)) (lowered .lower-number .ensures)
     in
     (search needs, ap length e ∙ lower-length _ _ firstUnmet (doneBy l) (s .args .b) (turn .loop .a + 1) l, e)
 
