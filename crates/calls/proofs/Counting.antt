@@ -151,16 +151,17 @@ counts-more xs ys a h l =
 pub counts-done : (xs ys : List ℕ) (n a : ℕ) → ys ≡ replaced (countsBelow a) (λ i. 0) xs → n ≤ a → a ≤ n → ys ≡ replaced (countsBelow n) (λ i. 0) xs
 counts-done xs ys n a h k l = let e : n ≡ a = omega arith in rw e h
 
--- a count of passes at the opening
-open-passes : (B : Body) (n i : ℕ) → n ≤ maxItems → countsBelow n i ≡ true → openCount B i ≡ 0
-unfolding openCount
-open-passes B n i few e =
-    let l : i < firstUnmet = ⊎-elim
+-- the counts of passes stand before the numbers, and are 0 at the opening
+passes-before : (n i : ℕ) → n ≤ maxItems → countsBelow n i ≡ true → i < firstUnmet
+passes-before n i few e =
+    ⊎-elim
     (λ t. omega (arith, ltb-true i n t))
     (λ t. omega (arith, ltb-true i (firstFinished + n) (and-true (leb firstFinished i) (ltb i (firstFinished + n)) t .1)))
     (or-cases (ltb i n) (within firstFinished n i) e)
-    in
-    rw (lt-leb firstUnmet i l)
+
+open-passes : (B : Body) (n i : ℕ) → n ≤ maxItems → countsBelow n i ≡ true → openCount B i ≡ 0
+unfolding openCount
+open-passes B n i few e = rw (lt-leb firstUnmet i (passes-before n i few e))
 
 -- the passes at 0, and then the numbers of unmet waits counted
 pub counts-opened : (B : Body) (n : ℕ) → n ≡ itemCount B → n ≤ maxItems → (xs ys zs : List ℕ) → ys ≡ replaced (countsBelow n) (λ i. 0) xs →

@@ -45,23 +45,33 @@ module _ (w table : List ℕ) (n a : ℕ) (G : Graph w table n) (la : a < n) (C 
       ∙ (ap (λ (t : Bool). cond t (suc (doneBy C a)) (doneBy L c)) (eqb-from firstFinished c a)
       ∙ ap (λ (x : ℕ). cond (eqb c a) (suc (doneBy C a)) x) (lowered-passes c l))
 
-  pub finish-counted : (D : List ℕ) (number : ℕ) → D ≡ set L (firstFinished + a) (doneBy L a + 1) →
-      number ≡ freshCount (system (bodyOf w)) (edgeTest (bodyOf w)) (doneBy D) a → set D (firstUnmet + a) number ≡ finishedCounts w C [] a
+  counted-number : freshCount (system (bodyOf w)) (edgeTest (bodyOf w)) (doneBy (set L (firstFinished + a) (suc (doneBy C a)))) a
+      ≡ freshCount (system (bodyOf w)) (edgeTest (bodyOf w)) (update (doneBy C) a (suc (doneBy C a))) a
+  counted-number =
+      count-agree (system (bodyOf w)) (edgeTest (bodyOf w)) (doneBy (set L (firstFinished + a) (suc (doneBy C a)))) (update (doneBy C) a (suc (doneBy C a))) a
+      (omega (arith, G .count)) (λ c l. counted-passes c (omega (arith, G .count)))
+
+  lowered-all : L ≡ loweredTo (system (bodyOf w)) (edgeTest (bodyOf w)) firstUnmet (doneBy C) a (itemCount (bodyOf w)) C
+  lowered-all = e ∙ ap (λ (j : ℕ). loweredTo (system (bodyOf w)) (edgeTest (bodyOf w)) firstUnmet (doneBy C) a j C) (G .count)
+
+  -- as the plan's words say it, and as the lent plan does
+  finish-words : set (set L (firstUnmet + a) (freshCount (system (bodyOf w)) (edgeTest (bodyOf w)) (update (doneBy C) a (suc (doneBy C a))) a))
+      (firstFinished + a) (suc (doneBy C a)) ≡ finishedCounts w C [] a
   unfolding finishedCounts finishedNumbers
-  finish-counted D number d f =
-      let s : doneBy L a + 1 ≡ suc (doneBy C a) = omega (arith, lowered-passes a la) in
-      let m : D ≡ set L (firstFinished + a) (suc (doneBy C a)) = d ∙ ap (λ (v : ℕ). set L (firstFinished + a) v) s in
-      let k : number ≡ freshCount (system (bodyOf w)) (edgeTest (bodyOf w)) (update (doneBy C) a (suc (doneBy C a))) a =
-      f
-      ∙ (ap (λ (x : List ℕ). freshCount (system (bodyOf w)) (edgeTest (bodyOf w)) (doneBy x) a) m
-      ∙ count-agree (system (bodyOf w)) (edgeTest (bodyOf w)) (doneBy (set L (firstFinished + a) (suc (doneBy C a)))) (update (doneBy C) a (suc (doneBy C a))) a
-      (omega (arith, G .count)) (λ c l. counted-passes c (omega (arith, G .count))))
-      in
-      let l : L ≡ loweredTo (system (bodyOf w)) (edgeTest (bodyOf w)) firstUnmet (doneBy C) a (itemCount (bodyOf w)) C =
-      e ∙ ap (λ (j : ℕ). loweredTo (system (bodyOf w)) (edgeTest (bodyOf w)) firstUnmet (doneBy C) a j C) (G .count)
-      in
-      ap (λ (x : List ℕ). set x (firstUnmet + a) number) m
-      ∙ (set-comm L (firstFinished + a) (firstUnmet + a) (suc (doneBy C a)) number (λ q. omega arith)
-      ∙ (ap₂ (λ (x : List ℕ) (v : ℕ). set (set x (firstUnmet + a) v) (firstFinished + a) (suc (doneBy C a))) l k
+  finish-words =
+      ap (λ (x : List ℕ). set (set x (firstUnmet + a) (freshCount (system (bodyOf w)) (edgeTest (bodyOf w)) (update (doneBy C) a (suc (doneBy C a))) a))
+      (firstFinished + a) (suc (doneBy C a))) lowered-all
       ∙ ap (λ (B : Body). set (finishedNumbers (system B) (edgeTest B) firstUnmet (doneBy C) a C) (firstFinished + a) (suc (doneBy C a)))
-      (ap bodyOf (sym (whole w table n G)))))
+      (ap bodyOf (sym (whole w table n G)))
+
+  -- from the counts D in which the finish is counted
+  module _ (D : List ℕ) (d : D ≡ set L (firstFinished + a) (doneBy L a + 1)) where
+    counted : D ≡ set L (firstFinished + a) (suc (doneBy C a))
+    counted = let s : doneBy L a + 1 ≡ suc (doneBy C a) = omega (arith, lowered-passes a la) in d ∙ ap (λ (v : ℕ). set L (firstFinished + a) v) s
+
+    pub finish-counted : (number : ℕ) → number ≡ freshCount (system (bodyOf w)) (edgeTest (bodyOf w)) (doneBy D) a →
+        set D (firstUnmet + a) number ≡ finishedCounts w C [] a
+    finish-counted number f =
+        ap₂ (λ (x : List ℕ) (v : ℕ). set x (firstUnmet + a) v) counted
+        (f ∙ (ap (λ (x : List ℕ). freshCount (system (bodyOf w)) (edgeTest (bodyOf w)) (doneBy x) a) counted ∙ counted-number))
+        ∙ (set-comm L (firstFinished + a) (firstUnmet + a) (suc (doneBy C a)) _ (λ q. omega arith) ∙ finish-words)

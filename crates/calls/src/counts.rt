@@ -23,8 +23,8 @@ use plan::state::surplus;
 
 // Whether the counts of all n items of a table are in form: no more finished than the item has
 // passes, and as many started, or one more with a pass left; and no more unmet waits than items.
-// `apart` joins the passes started and not finished, 0 or 1 an item. `beyond` and `above` have their
-// top bit clear while no count of passes and no number is too large.
+// `apart` joins the passes started and not finished, 0 or 1 an item. `beyond` and `above` have
+// their top bit clear while no count of passes and no number is too large.
 pub(crate) fn are_formed(counts: &[Count], table: &[u16], passes: Count, n: usize) -> bool
     requires { ⌜
         (countWords ≤ length (now counts)) × (n ≤ length (now table)) × (passes ≤ maxPasses) × (n ≤ maxItems)

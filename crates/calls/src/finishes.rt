@@ -25,8 +25,8 @@ use plan::state::FIRST_FINISHED;
 use plan::state::FIRST_HELD;
 use plan::state::FIRST_UNMET;
 use plan::state::MAX_ITEMS;
-use unmet::finishes::count_unmet;
-use unmet::finishes::lower_waits;
+use unmet::count_unmet;
+use unmet::lower_waits;
 use values::places::write_places;
 use walk::rows::mark_edges;
 

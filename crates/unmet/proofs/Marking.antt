@@ -19,7 +19,7 @@ use Rattle.edges.specs.Tests.{distance, edgeTest}
 use Rattle.waits.specs.Waits.{isUnmet, freshCount, meets}
 use Rattle.waits.specs.Stored.{loweredTo}
 use Rattle.waits.proofs.Unmet.{unmet-parts, unmet-of, count-left}
-use Rattle.waits.proofs.Stored.{lower-before, lower-more}
+use Rattle.waits.proofs.Stored.{lower-length, lower-before, lower-more}
 use Rattle.waits.proofs.Bodies.{source-made}
 use Rattle.plan.specs.Sizes.{maxItems, countWords, firstFinished, firstUnmet}
 use Rattle.walk.specs.Rows.{Marks}
@@ -69,14 +69,18 @@ module _ (B : Body) (n : ℕ) (marks : List ℕ) where
   pub lower-turn : (b a : ℕ) (l m m′ : List ℕ) (own served : ℕ) → Marks B n b false marks → a < n → n ≤ maxItems → countWords ≤ length l →
       m ≡ loweredTo (system B) (edgeTest B) firstUnmet (doneBy l) b a l → own ≡ itemPasses B a → served ≡ doneBy l b + distance b a →
       m′ ≡ cond (eqb (getD marks a 0) 1 && (eqb (doneBy m a) served && ltb (doneBy m a) own)) (set m (firstUnmet + a) (unmetBy m a - 1)) m →
-      m′ ≡ loweredTo (system B) (edgeTest B) firstUnmet (doneBy l) b (a + 1) l
+      (a + 1 ≤ n) × (length m′ ≡ length l) × (m′ ≡ loweredTo (system B) (edgeTest B) firstUnmet (doneBy l) b (a + 1) l)
   lower-turn b a l m m′ own served M la few long e o s w =
-      lower-more (system B) (edgeTest B) firstUnmet (doneBy l) b a l m m′
-      (eqb (getD marks a 0) 1 && (eqb (doneBy m a) served && ltb (doneBy m a) own)) (omega arith) e
-      (rw (same, s, o) (marked-meets b M (doneBy l) a la)) w
+      (omega arith, ap length next ∙ lower-length (system B) (edgeTest B) firstUnmet (doneBy l) b (a + 1) l, next)
     where
       same : doneBy m a ≡ doneBy l a
       same = ap (λ (x : List ℕ). doneBy x a) e ∙ lower-before (system B) (edgeTest B) firstUnmet (doneBy l) b a l (firstFinished + a) (omega arith)
+
+      next : m′ ≡ loweredTo (system B) (edgeTest B) firstUnmet (doneBy l) b (a + 1) l
+      next =
+          lower-more (system B) (edgeTest B) firstUnmet (doneBy l) b a l m m′
+          (eqb (getD marks a 0) 1 && (eqb (doneBy m a) served && ltb (doneBy m a) own)) (omega arith) e
+          (rw (same, s, o) (marked-meets b M (doneBy l) a la)) w
 
   -- the turn of item b of the loop that counts, and its end
   module _ (F : Fits B) (c : n ≡ itemCount B) (a : ℕ) (M : Marks B n a true marks) (la : a < n) (l : List ℕ) (left : doneBy l a < itemPasses B a) where

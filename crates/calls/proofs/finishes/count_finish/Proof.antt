@@ -31,7 +31,7 @@ returns : tie.Need-returns
 returns c =
     let lowered = c .before .before .before .before .before .before in
     let s = lowered .before .before .before .before .before .before .before .before .before .before in
-    finish-counted _ _ _ _ (s .pre .0) (s .pre .1) (now (s .args .counts)) _ (s .pre .2) (lowered .lower-waits .ensures) _ _ refl (c .count-unmet .ensures)
+    finish-counted _ _ _ _ (s .pre .0) (s .pre .1) (now (s .args .counts)) _ (s .pre .2) (lowered .lower-waits .ensures) _ refl _ (c .count-unmet .ensures)
 
 pub count-finish-spec : {M : Type 1} → statement M
 count-finish-spec =

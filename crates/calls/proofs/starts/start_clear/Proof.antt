@@ -54,7 +54,7 @@ returns-4 c =
     told-refused (now (a .plan)) (now (a .counts)) (now (a .values)) _ _ (c .no-word4 .ensures)
     (start-waiting _ (now (a .counts)) _ _ (s .pre .0) (now (a .values)) (s .pre .1) _ _ (index .as-index .ensures)
     (omega (arith, index .before .if1 .left, index .before .before .as-word .ensures)) _ _ (own .before .before .pass-count .ensures .0) (own .own-passes .ensures)
-    (omega (arith, idle .before .if2 .left)) (omega (arith, idle .if3 .left)) (c .before .if4 .taken))
+    (omega (arith, idle .before .if2 .left)) (omega (arith, idle .if3 .left)) (λ z. omega (arith, z, c .before .if4 .taken)))
 
 start-item-requires : tie.Need-start-item-requires
 start-item-requires c κs =

@@ -13,8 +13,8 @@ use Rattle.plan.specs.Layout.{bodyOf}
 use Rattle.graph.proofs.Lookup.{passes-most, codes-few, own-passes, body-fits}
 use Rattle.steps.specs.State.{doneBy}
 use Rattle.unmet.proofs.Marking.{count-turn, count-end}
-use Rattle.unmet.proofs.finishes.count_unmet.Statement.{statement}
-use Rattle.unmet.proofs.finishes.count_unmet.Tie as tie
+use Rattle.unmet.proofs.count_unmet.Statement.{statement}
+use Rattle.unmet.proofs.count_unmet.Tie as tie
 
 abbrev Inv-loop : tie.InvT-loop
 Inv-loop plan table marks n a counts pass count₀ b₀ count b =

@@ -1,8 +1,8 @@
 use mathlib.Core.Path.{_∙_}
 use borrow.Author.Needs.{needs}
 use Rattle.unmet.proofs.Marking.{distance-by}
-use Rattle.unmet.proofs.finishes.distance_of.Statement.{statement}
-use Rattle.unmet.proofs.finishes.distance_of.Tie as tie
+use Rattle.unmet.proofs.distance_of.Statement.{statement}
+use Rattle.unmet.proofs.distance_of.Tie as tie
 
 returns : tie.Need-returns
 returns c = (c .one-if .ensures .0 ∙ distance-by (c .before .args .b) (c .before .args .a), c .one-if .ensures .1)

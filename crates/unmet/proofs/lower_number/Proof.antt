@@ -1,7 +1,7 @@
 use borrow.Author.Tests.{eq-eqb, ne-eqb}
 use borrow.Author.Needs.{needs}
-use Rattle.unmet.proofs.finishes.lower_number.Statement.{statement}
-use Rattle.unmet.proofs.finishes.lower_number.Tie as tie
+use Rattle.unmet.proofs.lower_number.Statement.{statement}
+use Rattle.unmet.proofs.lower_number.Tie as tie
 
 returns : tie.Need-returns
 returns c = simp (ne-eqb _ _ (c .if1 .taken))

@@ -1,5 +1,5 @@
 use Prim.Native.Nat.{_+_, _-_, _≤_}
-use mathlib.Core.Path.{_≡_, _∙_, ap}
+use mathlib.Core.Path.{_≡_, ap}
 use native.Mathlib.Omega.{arith}
 use borrow.Author.Needs.{needs}
 use denote.Ref.{now}
@@ -7,14 +7,14 @@ use lib.ListN.{length}
 use Rattle.body.specs.Places.{system}
 use Rattle.edges.specs.Tests.{edgeTest}
 use Rattle.waits.specs.Stored.{loweredTo}
-use Rattle.waits.proofs.Stored.{lower-none, lower-length, lower-done}
+use Rattle.waits.proofs.Stored.{lower-none, lower-done}
 use Rattle.plan.specs.Sizes.{firstUnmet}
 use Rattle.plan.specs.Layout.{bodyOf}
 use Rattle.graph.proofs.Lookup.{passes-most, codes-few, own-passes}
 use Rattle.steps.specs.State.{doneBy}
 use Rattle.unmet.proofs.Marking.{lower-turn}
-use Rattle.unmet.proofs.finishes.lower_waits.Statement.{statement}
-use Rattle.unmet.proofs.finishes.lower_waits.Tie as tie
+use Rattle.unmet.proofs.lower_waits.Statement.{statement}
+use Rattle.unmet.proofs.lower_waits.Tie as tie
 
 abbrev Inv-loop : tie.InvT-loop
 Inv-loop plan table marks n b counts₀ passes pass a₀ counts a =
@@ -47,11 +47,8 @@ loop-again c =
     let w = now (s .args .plan) in
     let l = now (s .args .counts) in
     let has = own-passes _ _ _ G _ (counted .pass-count .ensures .0) (turn .loop .a) (own .before .before .loop-test .taken) _ (own .own-passes .ensures) in
-    let e =
     lower-turn (bodyOf w) (s .args .n) (now (s .args .marks)) (s .args .b) (turn .loop .a) l _ _ _ _ (s .pre .1) (own .before .before .loop-test .taken) (G .most) (s .pre .3)
     (turn .loop .inv .2) has (ap (λ k. doneBy l (s .args .b) + k) (far .distance-of .ensures .0)) (lowered .lower-number .ensures)
-    in
-    (search needs, ap length e ∙ lower-length _ _ firstUnmet (doneBy l) (s .args .b) (turn .loop .a + 1) l, e)
 
 returns : tie.Need-returns Inv-loop μ-loop
 returns c = search (needs, lower-done)
