@@ -25,7 +25,7 @@ use Rattle.steps.specs.Answers.{openOf, resultOf}
 use Rattle.steps.specs.Calls.{Call, start, finish, result, isStep, Lent, lentBy, call, isAccepted, play, accepted}
 use Rattle.steps.specs.Running.{Accepts, Next, Taken}
 use Rattle.steps.specs.Turns.{Over}
-use Rattle.steps.proofs.Accepting.{open-accepted, start-clear, start-rule, finish-clear, finish-can}
+use Rattle.steps.proofs.Accepting.{open-accepted, start-clear, start-turn, finish-clear, finish-can}
 use Rattle.steps.proofs.Running.{taken-accepted}
 use Rattle.taskiter.specs.Demands.{AtEnd, InAnyOrder, Complete}
 use Rattle.taskiter.specs.Run.{Run}
@@ -58,7 +58,7 @@ module _ (plan : List ℕ) where
   finish-below s a h = finish-can plan (s .counts) (s .values) (finish-clear plan (s .counts) (s .values) a h) a .0 h .in-range
 
   start-below : (s : Lent) (a : ℕ) → Accepts plan s (start a) → a < itemCount (planBody plan)
-  start-below s a h = start-rule plan (s .counts) (s .values) (start-clear plan (s .counts) (s .values) a h) a .0 h .in-range
+  start-below s a h = start-turn plan (s .counts) (s .values) (start-clear plan (s .counts) (s .values) a h) a .0 h .0
 
   test-false : (s : Lent) (c : Call) → isAccepted plan s c ≡ false → Accepts plan s c → ⊥
   test-false s c e h = not-both (eq-eqb (call plan s c .refusal) 0 h) e

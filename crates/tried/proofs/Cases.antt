@@ -7,18 +7,19 @@ use native.Mathlib.Omega.{arith}
 use Rattle.finite.specs.Below.{allBelow, anyBelow, countBelow}
 use Rattle.finite.specs.Lists.{mem, gather, range}
 use Rattle.kernels.specs.Kernels.{suits}
-use Rattle.body.specs.Transfers.{lastBefore, source, wanted, transferred, transfersOf}
-use Rattle.body.specs.Items.{itemList, itemAt}
+use Rattle.body.specs.Transfers.{lastBefore, source, wanted, transferred, transfersOf, wrapped}
+use Rattle.body.specs.Items.{itemList, itemAt, fewer}
 use Rattle.body.specs.TwoRanks.{tenEdges}
 use Rattle.edges.specs.Rule.{AllEdges}
 use Rattle.edges.specs.Touch.{touch, touchOn}
 use Rattle.edges.specs.Tests.{written, writtenBetween as between, crossed, paired, copyEdge, edgeTest}
 use Rattle.edges.specs.EdgeList.{edgesFrom, edgeList}
 use Rattle.edges.proofs.AllEdges.{all-edges}
+use Rattle.waits.specs.Waits.{isUnmet, freshCount}
 use Rattle.plan.specs.Layout.{bodyOf}
 use Rattle.plan.specs.Form.{wordsOk, wordsWithin}
 use Rattle.plan.proofs.Facts.{fits}
-use Rattle.tried.specs.Table.{exampleWords, readersWords}
+use Rattle.tried.specs.Table.{exampleWords, readersWords, unmetAt}
 
 -- A: the plan on two ranks that the paper gives
 two-ranks-ok : wordsOk (exampleWords 2) ≡ true
@@ -44,3 +45,21 @@ two-readers-list = refl
 
 pub two-readers-edges : AllEdges (bodyOf readersWords) ((0, 0, 1) ∷ (1, 1, 1) ∷ [])
 two-readers-edges = subst (AllEdges (bodyOf readersWords)) two-readers-list (all-edges (bodyOf readersWords) (fits readersWords two-readers-ok) (omega arith))
+
+-- card 7: the unmet waits of the example's items
+
+pub unmet-opened : unmetAt [] ≡ 0 ∷ 1 ∷ 1 ∷ 1 ∷ []
+unfolding itemList flatMap range gather transfersOf transferred wanted allBelow anyBelow countBelow source orElse lastBefore mem wrapped fewer itemAt touch touchOn written between crossed paired copyEdge edgeTest isUnmet freshCount
+unmet-opened = refl
+
+pub unmet-task-run : unmetAt (1 ∷ []) ≡ 1 ∷ 0 ∷ 1 ∷ 1 ∷ []
+unfolding itemList flatMap range gather transfersOf transferred wanted allBelow anyBelow countBelow source orElse lastBefore mem wrapped fewer itemAt touch touchOn written between crossed paired copyEdge edgeTest isUnmet freshCount
+unmet-task-run = refl
+
+pub unmet-send-run : unmetAt (1 ∷ 1 ∷ []) ≡ 0 ∷ 2 ∷ 0 ∷ 1 ∷ []
+unfolding itemList flatMap range gather transfersOf transferred wanted allBelow anyBelow countBelow source orElse lastBefore mem wrapped fewer itemAt touch touchOn written between crossed paired copyEdge edgeTest isUnmet freshCount
+unmet-send-run = refl
+
+pub unmet-ended : unmetAt (2 ∷ 2 ∷ 2 ∷ 2 ∷ []) ≡ 0 ∷ 0 ∷ 0 ∷ 0 ∷ []
+unfolding itemList flatMap range gather transfersOf transferred wanted allBelow anyBelow countBelow source orElse lastBefore mem wrapped fewer itemAt touch touchOn written between crossed paired copyEdge edgeTest isUnmet freshCount
+unmet-ended = refl

@@ -22,11 +22,11 @@ use Rattle.plan.specs.Layout.{planWords, bodyOf}
 use Rattle.reading.specs.Reading.{readOf, accepted as readTo}
 use Rattle.kernels.proofs.Cases.{mean-widest, mean-rounded, mean-of-3, mean-of-6, mean-of-10, sum-wraps, difference-wraps}
 use Rattle.graph.specs.Answers.{planBody}
-use Rattle.tried.proofs.Cases.{two-ranks-edges, two-readers-edges}
+use Rattle.tried.proofs.Cases.{two-ranks-edges, two-readers-edges, unmet-opened, unmet-task-run, unmet-send-run, unmet-ended}
 use Rattle.steps.specs.State.{stateOf, firstFinished}
 use Rattle.steps.specs.Answers.{openOf}
 use Rattle.steps.specs.Calls.{Call, start, finish, result, isStep, Lent, lentBy, call, play, accepted}
-use Rattle.taskiter.specs.Demands.{of-start, of-finish, Ready, Opened, OpenMade, Steps, startsOf, AtEnd, InAnyOrder, Demands}
+use Rattle.taskiter.specs.Demands.{AllFresh, of-start, of-finish, Ready, Opened, OpenMade, Steps, startsOf, AtEnd, InAnyOrder, Demands}
 use Rattle.taskiter.proofs.Demands.{demands}
 use Rattle.tried.specs.Table.{exampleOf, example, exampleWords, noPass, Fresh, Accepts, after, Table}
 use Rattle.tried.proofs.Read.{example-read, no-pass-read, more-passes-read, more-passes-before, most-passes-read, too-many-passes, readers-read, unordered-read, ahead-read, example-written, second-begin, named-twice}
@@ -117,6 +117,10 @@ module _ (D : Demands) where
     finished : (a : ℕ) → a < 4 → getD (s .counts) (firstFinished + a) 0 ≡ 0
     finished = none-finished 2 example example-read plan s F
 
+    fresh : AllFresh (planBody plan) (s .counts) (s .values)
+    unfolding play
+    fresh = subst (λ (B : Body). AllFresh B (s .counts) (s .values)) (sym (body-is 2 example example-read plan s F)) (order 2 example example-read plan s F [] .numbers)
+
     -- item 3 waits for item 2
     edge-2-3 : Edge (system (planBody plan)) 2 3 0
     edge-2-3 = subst (λ (B : Body). Edge (system B) 2 3 0) (sym (body-is 2 example example-read plan s F)) (two-ranks-edges .exactly 2 3 0 .0 (at-in (2, 3, 0) (0, 0, 0) tenEdges 7 (omega arith) refl))
@@ -124,7 +128,7 @@ module _ (D : Demands) where
     case-h : (call plan s (start 3) .refusal ≡ 16) × (call plan s (finish 0) .refusal ≡ 17) × (call plan s (result 0) .refusal ≡ 18)
     case-h =
         let N = steps 2 example example-read plan s F s .numbers in (
-          N .start-16 3 .1 (
+          N .start-16 fresh 3 .1 (
             R,
             omega (arith, four),
             omega (arith, two 3 (omega arith), finished 3 (omega arith)),
@@ -169,7 +173,7 @@ module _ (D : Demands) where
     case-i : Accepts (call plan s (start 0)) 6 × (after plan s (start 0 ∷ []) (start 0) .refusal ≡ 15)
     unfolding play accepted
     case-i =
-        let h = steps 2 example example-read plan s F s .starts 0 .1 (R, rule-0) in
+        let h = steps 2 example example-read plan s F s .starts fresh 0 .1 (R, rule-0) in
         let m = steps 2 example example-read plan s F s .started 0 h in
         let t : Lent = lentBy (call plan s (start 0)) in (
           record { refusal = h; word = order 2 example example-read plan s F (start 0 ∷ []) .starts [] [] 0 refl h .2 ∙ word-0 },
@@ -280,6 +284,10 @@ module _ (D : Demands) where
         case-h = case-h;
         case-i = case-i;
         case-j = two-readers-edges;
+        unmet-opened = unmet-opened;
+        unmet-task-run = unmet-task-run;
+        unmet-send-run = unmet-send-run;
+        unmet-ended = unmet-ended;
         case-k = second-begin;
         case-l = named-twice;
       }

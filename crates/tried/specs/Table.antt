@@ -1,5 +1,5 @@
--- The starred cases (paper 01, "Tried by hand"), one field a case, and cases of cards 1 to 3
--- and 5, over the definitions. Proved in proofs/Table.antt.
+-- The starred cases (paper 01, "Tried by hand"), one field a case, and cases of cards 1 to 3, 5 and
+-- 7, over the definitions. Proved in proofs/Table.antt.
 use Prim.Native.Nat.{ℕ, _+_, _-_, _*_, _^_, _≤_}
 use Prim.Native.String.{String}
 use mathlib.Core.Path.{_≡_}
@@ -7,8 +7,11 @@ use mathlib.Core.List.{List, [], _∷_, _++_, map}
 use lib.ListN.{length, getD, replicate}
 use Rattle.kernels.specs.Kernels.{total, kernelWord}
 use Rattle.body.specs.Items.{itemPasses}
+use Rattle.body.specs.Places.{system}
 use Rattle.body.specs.TwoRanks.{tenEdges}
 use Rattle.edges.specs.Rule.{AllEdges}
+use Rattle.edges.specs.Tests.{edgeTest}
+use Rattle.waits.specs.Waits.{freshCount}
 use Rattle.plan.specs.Limits.{maxWord}
 use Rattle.plan.specs.Layout.{bodyOf}
 use Rattle.reading.specs.Reading.{readOf, readWithin, accepted as readTo, refused}
@@ -85,6 +88,11 @@ pub record Accepts (r : Left) (v : ℕ) : Type 0 where
 abbrev pub after : List ℕ → Lent → List Call → Call → Left
 after plan s l c = call plan (play plan s l) c
 
+-- how many waits of the example's four items are unmet, where they have finished so many passes
+abbrev pub unmetAt : List ℕ → List ℕ
+unmetAt finished =
+    map (freshCount (system (bodyOf (exampleWords 2))) (edgeTest (bodyOf (exampleWords 2))) (λ a. getD finished a 0)) (0 ∷ 1 ∷ 2 ∷ 3 ∷ [])
+
 pub record Table : Type 0 where
   -- the texts are read to these words
   pub example-read : readOf example ≡ readTo (exampleWords 2)
@@ -130,6 +138,13 @@ pub record Table : Type 0 where
       (after plan s l (start 0) .word ≡ 2 ^ 32 + 5) × (getD (after plan s l (start 0) .counts) 0 0 ≡ 2 ^ 32)
   pub past-32-reached : (plan : List ℕ) (s : Lent) → Fresh (10 ^ 12) plan s →
       (l : List Call) × (getD (play plan s l .counts) 0 0 ≡ 2 ^ 32 - 1) × (after plan s l (start 0) .refusal ≡ 0)
+  -- card 7: at the opening each item but the first waits for the one before. Once item 0 has run, it
+  -- waits for the send, item 1, which waits for nothing. Once that has run too, item 0 may run again,
+  -- and the send waits for item 0 and for the receive. At the end nothing waits
+  pub unmet-opened : unmetAt [] ≡ 0 ∷ 1 ∷ 1 ∷ 1 ∷ []
+  pub unmet-task-run : unmetAt (1 ∷ []) ≡ 1 ∷ 0 ∷ 1 ∷ 1 ∷ []
+  pub unmet-send-run : unmetAt (1 ∷ 1 ∷ []) ≡ 0 ∷ 2 ∷ 0 ∷ 1 ∷ []
+  pub unmet-ended : unmetAt (2 ∷ 2 ∷ 2 ∷ 2 ∷ []) ≡ 0 ∷ 0 ∷ 0 ∷ 0 ∷ []
   -- D kernel 3 on four times 2^64 - 1, E on 1, 1, 1, 0, as card 3 has it
   pub case-d : (c : ℕ) → kernelWord 3 c ((2 ^ 64 - 1) ∷ (2 ^ 64 - 1) ∷ (2 ^ 64 - 1) ∷ (2 ^ 64 - 1) ∷ []) ≡ 2 ^ 64 - 1
   pub case-e : (c : ℕ) → kernelWord 3 c (1 ∷ 1 ∷ 1 ∷ 0 ∷ []) ≡ 1
