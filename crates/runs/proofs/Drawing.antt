@@ -2,6 +2,7 @@
 use Prim.Native.Nat.{ℕ, zero, suc, _+_, _*_, _≤_, _<_}
 use mathlib.Core.Path.{_≡_, refl, _∙_, ap}
 use mathlib.Core.Bool.{true}
+use mathlib.Core.Logic.{_⊎_, inl, inr, ⊎-elim}
 use mathlib.Core.List.{List, [], _∷_, _++_, flatMap}
 use native.Mathlib.Omega.{arith}
 use lib.ListN.{length, getD, drop, length-append, length-drop}
@@ -11,7 +12,7 @@ use Rattle.unroll.proofs.Edges.{edge-from, edge-to}
 use Rattle.body.specs.Places.{system}
 use Rattle.edges.specs.Rule.{Triple}
 use Rattle.edges.specs.Tests.{distance, edgeTest}
-use Rattle.edges.proofs.Decided.{edge-test, test-edge}
+use Rattle.edges.proofs.Decided.{edge-distance-is, edge-test, test-edge}
 use Rattle.plan.specs.Sizes.{edgeWords}
 use Rattle.plan.specs.Layout.{bodyOf}
 use Rattle.graph.specs.Table.{Graph}
@@ -20,8 +21,9 @@ use Rattle.graph.proofs.Small.{plan-fits, plan-small}
 use Rattle.walk.proofs.Listing.{length-three}
 use Rattle.graph.proofs.Theorems.{laws}
 use Rattle.calls.specs.Drawn.{Drawn}
-use Rattle.calls.proofs.Behind.{graph-formed}
-use Rattle.runs.specs.Chains.{fromAt, toAt, Edges}
+use Rattle.rows.specs.Rows.{fromAt, toAt}
+use Rattle.values.specs.Items.{Formed}
+use Rattle.runs.specs.Turns.{Edges}
 
 -- the numbers of edge e in the list
 abbrev none : Triple
@@ -46,7 +48,7 @@ to-three ((a, b, d) ∷ l) rest (suc e) h =
 pub drawn-edges : (w table : List ℕ) (n : ℕ) → Graph w table n → (list list′ : List ℕ) (m : ℕ) → edgeWords ≤ length list → Drawn w list m list′ → Edges w list′ n m
 drawn-edges w table n G list list′ m room D =
     record {
-      plan = graph-formed w table n G;
+      plan = record { long = G .long; formed = G .formed };
       count = G .count;
       most = G .most;
       ends = record {
@@ -57,6 +59,7 @@ drawn-edges w table n G list list′ m room D =
       };
       edge = edge;
       listed = listed;
+      ordered = ordered;
     }
   where
     l : List Triple
@@ -87,3 +90,26 @@ drawn-edges w table n G list list′ m room D =
         (D .all .exactly a b (distance a b) .1 (test-edge (bodyOf w) (plan-fits w (G .formed)) a b (omega (arith, G .count)) (omega (arith, G .count)) t)) in
         let h : f .0 < m = omega (arith, f .1, D .count) in
         (f .0, h, at (f .0) h .0 ∙ ap (λ (x : Triple). x .0) (f .2), at (f .0) h .1 ∙ ap (λ (x : Triple). x .1) (f .2))
+
+    -- from one item to another there is one edge
+    ordered : (d e : ℕ) → d < e → e < m → (fromAt list′ d < fromAt list′ e) ⊎ ((fromAt list′ d ≡ fromAt list′ e) × (toAt list′ d < toAt list′ e))
+    ordered d e h k =
+        let i = at d (omega arith) in
+        let j = at e k in
+        ⊎-elim
+        (λ a. inl (omega (arith, a, i .0, j .0)))
+        (λ a. inr (
+          (omega (arith, a .0, i .0, j .0)),
+          ⊎-elim
+              (λ b. omega (arith, b, i .1, j .1))
+              (λ b. absurd (omega (
+                arith,
+                b .1,
+                edge-distance-is (system (bodyOf w)) _ _ _ (stands d (omega arith)),
+                edge-distance-is (system (bodyOf w)) _ _ _ (stands e k),
+                ap (λ (x : ℕ). distance x (getD l d none .1)) (a .0),
+                ap (λ (x : ℕ). distance (getD l e none .0) x) (b .0),
+              )))
+              (a .1),
+        ))
+        (D .all .ordered d e h (omega (arith, D .count)))

@@ -1,4 +1,7 @@
-pub mod Chaining
-pub mod Turning
+pub mod Rowing
 pub mod Drawing
+pub mod Stepping
+pub mod Readying
+pub mod Turning
+pub mod Taking
 pub mod Opened

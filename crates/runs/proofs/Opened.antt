@@ -1,6 +1,6 @@
 -- A plan that is lent with the table of its items, opened and run.
 use Prim.Native.Nat.{ℕ, _≤_}
-use mathlib.Core.Path.{_≡_, sym, _∙_, ap, subst}
+use mathlib.Core.Path.{_≡_, _∙_, ap, subst}
 use mathlib.Core.List.{List}
 use native.Mathlib.Omega.{arith}
 use borrow.Author.Tests.{lt-ltb}
@@ -12,12 +12,12 @@ use Rattle.plan.specs.Sizes.{countWords, valueWords}
 use Rattle.graph.specs.Table.{Graph}
 use Rattle.steps.specs.Answers.{openOf}
 use Rattle.steps.specs.Calls.{Lent, lent, lentBy}
-use Rattle.steps.specs.Turns.{Idle, Going}
+use Rattle.steps.specs.Turns.{Going}
 use Rattle.steps.proofs.Accepting.{long-slices, open-opened}
-use Rattle.steps.proofs.Running.{opened-idle}
 use Rattle.values.proofs.Plans.{plan-long, plan-formed}
 use Rattle.calls.specs.Told.{toldOpening}
 use Rattle.calls.proofs.Behind.{graph-formed}
+use Rattle.runs.specs.Turns.{Opened}
 
 -- the table, copied
 pub graph-copied : (w table items items′ : List ℕ) (n : ℕ) → Graph w table n → n ≤ length items → items′ ≡ replaced (λ i. ltb i n) (λ i. getD table i 0) items → Graph w items′ n
@@ -34,12 +34,16 @@ graph-copied w table items items′ n G l e =
 
 module _ (w table : List ℕ) (n : ℕ) (G : Graph w table n) (C W C1 W1 : List ℕ) (c : countWords ≤ length C) (v : valueWords ≤ length W)
     (o : toldOpening 0 C1 W1 ≡ openOf w C W) where
-  -- an opened state is idle
-  pub idle : Idle w (lent C1 W1)
-  idle =
+  pub opened-is : Opened w (lent C1 W1)
+  opened-is =
       let F = graph-formed w table n G in
-      let l = plan-long w F in
-      subst (Idle w) (ap lentBy (sym (open-opened w C W (long-slices w C W .1 (l, c, v)) (plan-formed w F)) ∙ sym o)) (opened-idle w l (plan-formed w F) C W c v)
+      record {
+        counts = C;
+        values = W;
+        long-counts = c;
+        long-values = v;
+        left = ap lentBy (o ∙ open-opened w C W (long-slices w C W .1 (plan-long w F, c, v)) (plan-formed w F));
+      }
 
   pub from-opening : (s : Lent) (steps : ℕ) → Going w (lent C1 W1) s steps → Going w (lentBy (openOf w C W)) s steps
   from-opening s steps g = subst (λ (x : Lent). Going w x s steps) (ap lentBy o) g

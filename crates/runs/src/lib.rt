@@ -1,70 +1,108 @@
 // Running a plan to its end: turns, in each of which the lowest item that may start is started and
-// finished.
+// finished. The set of the items that may start is kept beside the lent state.
 ghost use Prim.Native.Nat.{_≤_, _<_};
 ghost use mathlib.Core.Path.{_≡_};
 ghost use lib.ListN.{length, getD};
 ghost use Rattle.plan.specs.Limits.{maxPasses};
-ghost use Rattle.plan.specs.Sizes.{countWords, valueWords, edgeWords};
+ghost use Rattle.plan.specs.Sizes.{maxItems, countWords, valueWords, edgeWords};
 ghost use Rattle.graph.specs.Table.{Graph};
+ghost use Rattle.rows.specs.Rows.{Ends};
 ghost use Rattle.steps.specs.Answers.{started, finished, openOf};
 ghost use Rattle.steps.specs.Calls.{lent, lentBy};
-ghost use Rattle.steps.specs.Turns.{doneBy, Idle, Going, Over};
+ghost use Rattle.steps.specs.Turns.{Going, Over};
 ghost use Rattle.values.specs.Items.{Found};
 ghost use Rattle.calls.specs.Drawn.{Drawn};
-ghost use Rattle.runs.specs.Chains.{Chained, Bounded, Edges};
+ghost use Rattle.runs.specs.Turns.{Edges, Tables, ReadyBut, Turn, Opened};
 
-mod chains;
+mod ready;
 pub mod shown;
 
-use crate::chains::chain_edges;
-use crate::chains::find_lowest;
-use crate::chains::first_ready;
+use crate::ready::put_ready;
 use crate::shown::copy_items;
 use calls::drawing::list_edges;
-use calls::finishes::finish_item;
+use calls::finishes::write_item;
 use calls::openings::open_clear;
 use calls::starts::start_item;
+use masks::MASK_WORDS;
+use masks::take_lowest;
 use plan::layout::pass_count;
 use plan::numbers::index_16;
 use plan::numbers::wide_16;
 use plan::state::Count;
-use plan::state::MAX_EDGES;
 use plan::state::MAX_ITEMS;
+use plan::state::own_passes;
+use rows::ROWS;
+use rows::count_sources;
+use rows::find_rows;
+use rows::numbers::count_finish;
+use rows::numbers::lower_row;
 
-// Item a starts and finishes.
-fn take_turn(plan: &[u64], code: u64, a: usize, counts: &mut [Count], values: &mut [u64])
+// Item a computes its word, which goes to the places that it writes; the start is counted, and the
+// finish not yet.
+fn pass_word(plan: &[u64], code: u64, a: usize, counts: &mut [Count], values: &mut [u64])
     requires { ⌜
         Found (now plan) a code × (countWords ≤ length (now counts)) × (valueWords ≤ length (now values))
-        × (getD (now counts) a 0 < maxPasses) × (doneBy (now counts) a < maxPasses)
+        × (getD (now counts) a 0 < maxPasses)
         ⌝ }
     ensures { λ _. ⌜
-        lent (now (counts .exit)) (now (values .exit)) ≡ lentBy (finished (now (plan .entry))
+        (now (counts .exit) ≡ started (now (plan .entry)) (now (counts .entry)) (now (values .entry)) a .counts)
+        × (now (values .exit) ≡ finished (now (plan .entry))
         (started (now (plan .entry)) (now (counts .entry)) (now (values .entry)) a .counts)
-        (started (now (plan .entry)) (now (counts .entry)) (now (values .entry)) a .values) a)
+        (started (now (plan .entry)) (now (counts .entry)) (now (values .entry)) a .values) a .values)
         ⌝ }
 {
     start_item(plan, code, a, counts, values);
-    finish_item(plan, code, a, counts, values);
+    write_item(plan, code, a, values);
 }
 
-// Takes turns until no step is accepted, and answers how many steps they were. After a turn of an
-// item only those that it has an edge to can newly be ready, so the next is looked for from the
-// lowest of them on.
+// Item a, which has so many passes, starts and finishes. With the items in step, its finish takes one
+// off the number of each item that it has an edge to, and it waits for all its sources then.
+fn take_turn(
+    plan: &[u64],
+    code: u64,
+    a: usize,
+    own: Count,
+    edges: &[u32],
+    m: usize,
+    rows: &[u16; ROWS],
+    sources: &[u64; MAX_ITEMS],
+    counts: &mut [Count],
+    values: &mut [u64],
+    words: &mut [u64],
+)
+    requires { ⌜
+        Turn (now plan) a code own (now counts) (now values) (now words) × Ends (now edges) m × Tables (now plan) (now edges) m (now rows) (now sources)
+        × (a < maxItems)
+        ⌝ }
+    ensures { λ _. ⌜
+        (lent (now (counts .exit)) (now (values .exit)) ≡ lentBy (finished (now (plan .entry))
+        (started (now (plan .entry)) (now (counts .entry)) (now (values .entry)) a .counts)
+        (started (now (plan .entry)) (now (counts .entry)) (now (values .entry)) a .values) a))
+        × ReadyBut (now (plan .entry)) (now (counts .exit)) maxItems (now (words .exit))
+        ⌝ }
+{
+    let lo = index_16(rows[a]);
+    let hi = index_16(rows[a + 1]);
+    pass_word(plan, code, a, counts, values);
+    lower_row(edges, m, lo, hi, counts, words);
+    count_finish(counts, words, a, own, sources[a]);
+}
+
+// Takes turns until no step is accepted, and answers how many steps they were.
 fn take_turns(
     plan: &[u64],
     table: &[u16; MAX_ITEMS],
-    edges: &[u32],
     n: usize,
+    edges: &[u32],
     m: usize,
-    heads: &[u16; MAX_ITEMS],
-    nexts: &[u16; MAX_EDGES],
-    lowest: &[u16; MAX_ITEMS],
+    rows: &[u16; ROWS],
+    sources: &[u64; MAX_ITEMS],
     counts: &mut [Count],
     values: &mut [u64],
 ) -> u64
     requires { ⌜
-        Graph (now plan) (now table) n × Edges (now plan) (now edges) n m × Chained (now edges) m (now heads) (now nexts) × Bounded (now edges) m (now lowest)
-        × Idle (now plan) (lent (now counts) (now values))
+        Graph (now plan) (now table) n × Edges (now plan) (now edges) n m × Tables (now plan) (now edges) m (now rows) (now sources)
+        × Opened (now plan) (lent (now counts) (now values))
         ⌝ }
     ensures { λ r. ⌜
         Going (now (plan .entry)) (lent (now (counts .entry)) (now (values .entry))) (lent (now (counts .exit)) (now (values .exit))) r
@@ -72,13 +110,27 @@ fn take_turns(
         ⌝ }
 {
     let passes = pass_count(plan);
+    let mut words = [0u64; MASK_WORDS];
+    put_ready(plan, table, n, counts, passes, &mut words);
     let mut steps: u64 = 0;
-    let mut a = first_ready(plan, table, edges, n, m, heads, nexts, counts, passes, 0);
-    while a < n {
-        take_turn(plan, wide_16(table[a]), a, counts, values);
+    let mut a = take_lowest(&mut words);
+    while a < MAX_ITEMS {
+        let code = table[a];
+        take_turn(
+            plan,
+            wide_16(code),
+            a,
+            own_passes(passes, code),
+            edges,
+            m,
+            rows,
+            sources,
+            counts,
+            values,
+            &mut words,
+        );
         steps += 2;
-        let low = index_16(lowest[a]);
-        a = first_ready(plan, table, edges, n, m, heads, nexts, counts, passes, low);
+        a = take_lowest(&mut words);
     }
     steps
 }
@@ -93,29 +145,17 @@ fn run_opened(
     counts: &mut [Count],
     values: &mut [u64],
 ) -> u64
-    requires { ⌜ Graph (now plan) (now table) n × Edges (now plan) (now edges) n m × Idle (now plan) (lent (now counts) (now values)) ⌝ }
+    requires { ⌜ Graph (now plan) (now table) n × Edges (now plan) (now edges) n m × Opened (now plan) (lent (now counts) (now values)) ⌝ }
     ensures { λ r. ⌜
         Going (now (plan .entry)) (lent (now (counts .entry)) (now (values .entry))) (lent (now (counts .exit)) (now (values .exit))) r
         × Over (now (plan .entry)) (lent (now (counts .exit)) (now (values .exit)))
         ⌝ }
 {
-    let mut heads = [0u16; MAX_ITEMS];
-    let mut nexts = [0u16; MAX_EDGES];
-    chain_edges(edges, m, &mut heads, &mut nexts);
-    let mut lowest = [65535u16; MAX_ITEMS];
-    find_lowest(edges, m, &mut lowest);
-    take_turns(
-        plan,
-        table,
-        edges,
-        n,
-        m,
-        &heads,
-        &nexts,
-        &lowest,
-        counts,
-        values,
-    )
+    let mut rows = [0u16; ROWS];
+    find_rows(edges, m, &mut rows);
+    let mut sources = [0u64; MAX_ITEMS];
+    count_sources(edges, m, &mut sources);
+    take_turns(plan, table, n, edges, m, &rows, &sources, counts, values)
 }
 
 // How many edges were listed, and how many steps were taken.

@@ -26,7 +26,7 @@ use Rattle.tried.proofs.Cases.{two-ranks-edges, two-readers-edges, unme
 use Rattle.steps.specs.State.{stateOf, firstFinished}
 use Rattle.steps.specs.Answers.{openOf}
 use Rattle.steps.specs.Calls.{Call, start, finish, result, isStep, Lent, lentBy, call, play, accepted}
-use Rattle.taskiter.specs.Demands.{AllFresh, of-start, of-finish, Ready, Opened, OpenMade, Steps, startsOf, AtEnd, InAnyOrder, Demands}
+use Rattle.taskiter.specs.Demands.{AllFresh, Ready, Opened, OpenMade, Steps, startsOf, AtEnd, InAnyOrder, Demands}
 use Rattle.taskiter.proofs.Demands.{demands}
 use Rattle.tried.specs.Table.{exampleOf, example, exampleWords, noPass, Fresh, Accepts, after, Table}
 use Rattle.tried.proofs.Read.{example-read, no-pass-read, more-passes-read, more-passes-before, most-passes-read, too-many-passes, readers-read, unordered-read, ahead-read, example-written, second-begin, named-twice}
@@ -68,10 +68,10 @@ module _ (D : Demands) where
     made = D .demand-2 .steps plan (F .counts) (F .values) (F .words) .opened (run .accepted)
 
     none-started : (a : ℕ) → a < 4 → getD (s .counts) a 0 ≡ 0
-    none-started a l = ap (λ (t : Lent). getD (t .counts) a 0) (F .opened) ∙ made .count-set a (of-start a (omega (arith, items-four)) refl)
+    none-started a l = ap (λ (t : Lent). getD (t .counts) a 0) (F .opened) ∙ made .count-set a (omega (arith, items-four)) .0
 
     none-finished : (a : ℕ) → a < 4 → getD (s .counts) (firstFinished + a) 0 ≡ 0
-    none-finished a l = ap (λ (t : Lent). getD (t .counts) (firstFinished + a) 0) (F .opened) ∙ made .count-set (firstFinished + a) (of-finish a (omega (arith, items-four)) refl)
+    none-finished a l = ap (λ (t : Lent). getD (t .counts) (firstFinished + a) 0) (F .opened) ∙ made .count-set a (omega (arith, items-four)) .1
 
     -- after the result of a region is accepted
     at-end : (l : List Call) → after plan s l (result 0) .refusal ≡ 0 → AtEnd (bodyOf (exampleWords p)) plan s l

@@ -1,3 +1,4 @@
 pub mod Waits
 pub mod Stored
 pub mod Laws
+pub mod InStep

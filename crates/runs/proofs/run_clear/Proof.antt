@@ -1,7 +1,7 @@
 use borrow.Author.Needs.{needs}
 use denote.Ref.{now}
 use Rattle.runs.proofs.Drawing.{drawn-edges}
-use Rattle.runs.proofs.Opened.{graph-copied, idle, from-opening}
+use Rattle.runs.proofs.Opened.{graph-copied, opened-is, from-opening}
 use Rattle.runs.proofs.run_clear.Statement.{statement}
 use Rattle.runs.proofs.run_clear.Tie as tie
 
@@ -27,7 +27,7 @@ run-opened-requires c κs =
     let G = graph-copied _ _ _ _ _ (s .pre .0) (s .pre .0 .most) (copy-items .copy-items .ensures) in (
       G,
       drawn-edges _ _ _ G _ _ _ (s .pre .2) (list-edges .list-edges .ensures),
-      idle _ _ _ G (now (s .args .counts)) (now (s .args .values)) _ _ (s .pre .3)
+      opened-is _ _ _ G (now (s .args .counts)) (now (s .args .values)) _ _ (s .pre .3)
           (s .pre .4) (open-clear .open-clear .ensures),
     )
 

@@ -1,7 +1,7 @@
 use borrow.Author.Needs.{needs}
-use Rattle.runs.proofs.Chaining.{source-below}
-use Rattle.runs.proofs.chains.source.Statement.{statement}
-use Rattle.runs.proofs.chains.source.Tie as tie
+use Rattle.rows.proofs.Listed.{source-below}
+use Rattle.rows.proofs.source.Statement.{statement}
+use Rattle.rows.proofs.source.Tie as tie
 
 returns : tie.Need-returns
 returns c = search (needs, source-below)

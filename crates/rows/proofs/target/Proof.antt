@@ -1,7 +1,7 @@
 use borrow.Author.Needs.{needs}
-use Rattle.runs.proofs.Chaining.{target-below}
-use Rattle.runs.proofs.chains.target.Statement.{statement}
-use Rattle.runs.proofs.chains.target.Tie as tie
+use Rattle.rows.proofs.Listed.{target-below}
+use Rattle.rows.proofs.target.Statement.{statement}
+use Rattle.rows.proofs.target.Tie as tie
 
 returns : tie.Need-returns
 returns c = search (needs, target-below)
