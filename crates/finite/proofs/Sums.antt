@@ -1,6 +1,6 @@
 -- Sums of sums, and counts bounded by others.
 use Prim.Native.Nat.{ℕ, zero, suc, _+_, _*_, _≤_, _<_}
-use mathlib.Core.Path.{_≡_, refl, sym, _∙_}
+use mathlib.Core.Path.{_≡_, refl, sym, _∙_, subst}
 use mathlib.Core.Bool.{Bool, true, false, cond, not, _&&_, _||_}
 use mathlib.Core.Logic.{⊎-elim}
 use native.Mathlib.Decide.{decLt}
@@ -125,15 +125,17 @@ count-disjoint m n p r f u =
     (sum-le n (λ j. countBelow m (λ i. p i j)) (λ j. cond (r j) 1 0)
     (λ j l. count-once m (λ i. p i j) (r j) (λ i h. f i j h l) (λ i k h g. u i k j h g l)))
 
--- numbers taken to numbers below m, no two to one
-pub count-apart : (n m : ℕ) (p : ℕ → Bool) (f : ℕ → ℕ) → ((k : ℕ) → k < n → p k ≡ true → f k < m) →
-    ((j k : ℕ) → j < k → k < n → p j ≡ true → p k ≡ true → f j ≡ f k → ⊥) → countBelow n p ≤ m
-count-apart n m p f b u =
+-- numbers taken to numbers below m of which r holds, no two to one
+pub count-into : (n m : ℕ) (p r : ℕ → Bool) (f : ℕ → ℕ) → ((k : ℕ) → k < n → p k ≡ true → (f k < m) × (r (f k) ≡ true)) →
+    ((j k : ℕ) → j < k → k < n → p j ≡ true → p k ≡ true → f j ≡ f k → ⊥) → countBelow n p ≤ countBelow m r
+count-into n m p r f b u =
     omega (
       arith,
-      count-le (λ _. true) m,
       rw (← count-sum n p) at (sum-le n (λ k. cond (p k) 1 0) (λ k. countBelow m (to k)) (λ k l. one k l (p k) refl)),
-      count-disjoint n m to (λ _. true) (λ k j l h e. refl)
+      count-disjoint n m to r
+          (λ k j l h e.
+          let x = and-true (p k) (eqb (f k) j) e in
+          subst (λ (i : ℕ). r i ≡ true) (eqb-true (f k) j (x .1)) (b k l (x .0) .1))
           (λ i k j l h v d e.
           let x = and-true (p i) (eqb (f i) j) d in
           let y = and-true (p k) (eqb (f k) j) e in
@@ -144,5 +146,10 @@ count-apart n m p f b u =
     to k j = p k && eqb (f k) j
 
     one : (k : ℕ) → k < n → (c : Bool) → p k ≡ c → cond c 1 0 ≤ countBelow m (to k)
-    one k l true e = count-some m (to k) (f k) (b k l e) (and-intro (p k) (eqb (f k) (f k)) e (eq-eqb (f k) (f k) refl))
+    one k l true e = count-some m (to k) (f k) (b k l e .0) (and-intro (p k) (eqb (f k) (f k)) e (eq-eqb (f k) (f k) refl))
     one k l false e = omega arith
+
+-- so there are at most m
+pub count-apart : (n m : ℕ) (p : ℕ → Bool) (f : ℕ → ℕ) → ((k : ℕ) → k < n → p k ≡ true → f k < m) →
+    ((j k : ℕ) → j < k → k < n → p j ≡ true → p k ≡ true → f j ≡ f k → ⊥) → countBelow n p ≤ m
+count-apart n m p f b u = omega (arith, count-le (λ _. true) m, count-into n m p (λ _. true) f (λ k l e. (b k l e, refl)) u)

@@ -228,6 +228,7 @@ module _ (plan counts values : List ℕ) (opens : openOf plan counts values .ref
         counted = steps-accepted;
         complete = steps-complete;
         total = steps-total;
+        numbers = order l .numbers;
         only = λ k t c. taken-only plan s k l t (steps-taken plan mostSteps s) (over-after k c) (over-after l steps-complete);
         results = steps-results;
       }

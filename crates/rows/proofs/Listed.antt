@@ -1,5 +1,5 @@
--- The rows of a list of edges and the edges into each item: laws of the loops that find them (-none,
--- -more, -done: before the first turn, over a turn, and after the last).
+-- The rows of a list of edges and the edges into each item: laws of the loops that find them
+-- (-none, -more, -done: before the first turn, over a turn, and after the last).
 use Prim.Native.Nat.{ℕ, suc, _+_, _≤_, _<_}
 use mathlib.Core.Path.{_≡_, refl, sym, _∙_, ap}
 use mathlib.Core.Bool.{Bool, true, false, cond, not, _&&_}

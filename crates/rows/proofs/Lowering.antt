@@ -9,9 +9,7 @@ use borrow.Author.Tests.{eqb-true, eq-eqb, ne-eqb}
 use lib.Dec.{eqb, ltb, leb}
 use lib.ListN.{length, getD, set, length-set}
 use Rattle.finite.specs.Below.{anyBelow}
-use Rattle.finite.specs.Update.{replaced}
 use Rattle.finite.proofs.Below.{any-next, any-never}
-use Rattle.finite.proofs.Tests.{or-parts}
 use Rattle.finite.proofs.Update.{set-at}
 use Rattle.finite.proofs.Replaced.{list-ext, length-replaced, replaced-at, replaced-not, replaced-nowhere, replaced-where, replaced-set}
 use Rattle.waits.proofs.Stored.{from-ext, from-at, from-one, from-before}
@@ -19,7 +17,7 @@ use Rattle.plan.specs.Sizes.{maxItems, countWords, firstFinished, firstUnmet}
 use Rattle.masks.specs.Masks.{maskWords, inMask, Entered}
 use Rattle.masks.proofs.Sets.{entered-none, entered-ext, entered-more}
 use Rattle.rows.specs.Rows.{toAt, Row, leadsTo}
-use Rattle.rows.specs.Numbers.{numberAt, Apart, isLast, loweredBy, isFreed, hasNext, countedFinish, isNext}
+use Rattle.rows.specs.Numbers.{numberAt, Apart, isLast, loweredBy, isFreed, countedFinish, isNext}
 
 -- one number
 

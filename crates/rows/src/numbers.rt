@@ -65,13 +65,7 @@ fn number_if(holds: bool, number: u64) -> u64
 
 // Counts a finish of item a. If it has a pass left, it then waits for each of its sources; where it
 // has none, it is put into the set.
-pub fn count_finish(
-    counts: &mut [Count],
-    words: &mut [u64],
-    a: usize,
-    own: Count,
-    sources: u64,
-)
+pub fn count_finish(counts: &mut [Count], words: &mut [u64], a: usize, own: Count, sources: u64)
     requires { ⌜
         (countWords ≤ length (now counts)) × (length (now words) ≡ maskWords) × (a < maxItems)
         × (getD (now counts) (firstFinished + a) 0 < maxPasses) × (inMask (now words) a ≡ false)

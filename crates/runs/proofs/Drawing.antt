@@ -22,7 +22,6 @@ use Rattle.walk.proofs.Listing.{length-three}
 use Rattle.graph.proofs.Theorems.{laws}
 use Rattle.calls.specs.Drawn.{Drawn}
 use Rattle.rows.specs.Rows.{fromAt, toAt}
-use Rattle.values.specs.Items.{Formed}
 use Rattle.runs.specs.Turns.{Edges}
 
 -- the numbers of edge e in the list

@@ -8,7 +8,7 @@ use native.Mathlib.Omega.{arith}
 use borrow.Author.Tests.{eq-eqb, ne-eqb, lt-ltb, le-ltb}
 use lib.Dec.{eqb, ltb}
 use lib.ListN.{length, getD, replicate, length-replicate}
-use Rattle.body.specs.Items.{itemCount, itemPasses}
+use Rattle.body.specs.Items.{itemCount}
 use Rattle.plan.specs.Layout.{bodyOf, passesOf}
 use Rattle.plan.specs.Code.{codeFewer}
 use Rattle.plan.specs.Sizes.{maxItems}

@@ -2,19 +2,18 @@
 use Prim.Native.Nat.{ℕ, zero, suc, _+_, _-_, _≤_, _<_}
 use mathlib.Core.Path.{_≡_, refl, sym, _∙_, ap, subst}
 use mathlib.Core.Bool.{Bool, true, false, cond, not, _&&_}
-use mathlib.Core.Logic.{_⊎_, inl, inr, ⊎-elim}
+use mathlib.Core.Logic.{_⊎_, ⊎-elim}
 use mathlib.Core.List.{List}
 use native.Mathlib.Decide.{decLt, ℕ-discrete}
 use native.Mathlib.Omega.{arith}
-use borrow.Author.Tests.{eqb-true, eqb-false, ltb-true, eq-eqb, ne-eqb, lt-ltb, not-true}
+use borrow.Author.Tests.{eqb-true, ltb-true, eq-eqb, lt-ltb}
 use lib.Dec.{eqb, ltb}
-use lib.ListN.{length, getD}
-use Rattle.finite.specs.Below.{anyBelow, countBelow}
+use lib.ListN.{getD}
+use Rattle.finite.specs.Below.{countBelow}
 use Rattle.finite.specs.Lists.{tabulate}
-use Rattle.finite.proofs.Below.{any-at, any-from, count-sum, count-cover, sum-le}
-use Rattle.finite.proofs.Sums.{count-some, count-disjoint}
+use Rattle.finite.proofs.Below.{any-at, any-from, count-cover}
+use Rattle.finite.proofs.Sums.{count-into}
 use Rattle.finite.proofs.Tests.{and-intro, and-true, not-both, test-ext}
-use Rattle.body.specs.Items.{itemCount}
 use Rattle.body.specs.Places.{system}
 use Rattle.edges.specs.Tests.{edgeTest}
 use Rattle.waits.specs.InStep.{sourcesOf}
@@ -23,30 +22,6 @@ use Rattle.plan.specs.Sizes.{maxItems}
 use Rattle.rows.specs.Rows.{rowWords, fromAt, toAt, Row, rowEnd, sourceCount, leadsTo}
 use Rattle.rows.proofs.Listed.{table-at}
 use Rattle.runs.specs.Turns.{Edges, Tables}
-
--- numbers taken to numbers below m of which q holds, no two to one
-count-into : (n m : ℕ) (p q : ℕ → Bool) (f : ℕ → ℕ) → ((k : ℕ) → k < n → p k ≡ true → (f k < m) × (q (f k) ≡ true)) →
-    ((j k : ℕ) → j < k → k < n → p j ≡ true → p k ≡ true → f j ≡ f k → ⊥) → countBelow n p ≤ countBelow m q
-count-into n m p q f b u =
-    omega (
-      arith,
-      rw (← count-sum n p) at (sum-le n (λ k. cond (p k) 1 0) (λ k. countBelow m (to k)) (λ k l. one k l (p k) refl)),
-      count-disjoint n m to q
-          (λ k j l h e.
-          let x = and-true (p k) (eqb (f k) j) e in
-          subst (λ (i : ℕ). q i ≡ true) (eqb-true (f k) j (x .1)) (b k l (x .0) .1))
-          (λ i k j l h v d e.
-          let x = and-true (p i) (eqb (f i) j) d in
-          let y = and-true (p k) (eqb (f k) j) e in
-          u i k l h (x .0) (y .0) (eqb-true (f i) j (x .1) ∙ sym (eqb-true (f k) j (y .1)))),
-    )
-  where
-    to : ℕ → ℕ → Bool
-    to k j = p k && eqb (f k) j
-
-    one : (k : ℕ) → k < n → (c : Bool) → p k ≡ c → cond c 1 0 ≤ countBelow m (to k)
-    one k l true e = count-some m (to k) (f k) (b k l e .0) (and-intro (p k) (eqb (f k) (f k)) e (eq-eqb (f k) (f k) refl))
-    one k l false e = omega arith
 
 -- the last edge of a row
 module _ (edges : List ℕ) where

@@ -1,17 +1,16 @@
 -- In a state that turns reach from an opening, the item that takes the next turn has its neighbours
 -- in step.
-use Prim.Native.Nat.{ℕ, suc, _+_, _<_}
+use Prim.Native.Nat.{ℕ, suc, _<_}
 use mathlib.Core.Path.{_≡_, sym, _∙_, ap, subst}
 use mathlib.Core.Bool.{true}
 use mathlib.Core.List.{List}
 use borrow.Author.Tests.{eqb-true}
 use lib.Dec.{eqb, ltb}
 use lib.ListN.{take}
-use Rattle.finite.specs.Update.{update}
 use Rattle.finite.proofs.Tests.{and-true}
 use Rattle.finite.proofs.Update.{update-same}
 use Rattle.unroll.specs.System.{System}
-use Rattle.unroll.specs.Machine.{State, start as startStep, opening, CanStart, startState, Decides, run}
+use Rattle.unroll.specs.Machine.{State, start as startStep, opening, CanStart, startState}
 use Rattle.unroll.specs.AnyOrder.{reached}
 use Rattle.unroll.proofs.Decide.{decides}
 use Rattle.unroll.proofs.Invariant.{Invariant, start-invariant}
@@ -28,8 +27,7 @@ use Rattle.plan.specs.Layout.{planWords, bodyOf}
 use Rattle.graph.specs.Answers.{planBody}
 use Rattle.graph.proofs.Small.{plan-fits, plan-small}
 use Rattle.steps.specs.State.{doneBy, unmetBy}
-use Rattle.steps.specs.Answers.{opened}
-use Rattle.steps.specs.Calls.{start, Lent, lent, lentBy, call, play}
+use Rattle.steps.specs.Calls.{Lent}
 use Rattle.steps.specs.Turns.{isReady, Going}
 use Rattle.steps.proofs.Simulating.{Tied, opened-tied, start-follows}
 use Rattle.steps.proofs.Playing.{stepsOf, play-tied}

@@ -1,6 +1,6 @@
 -- Turns one after another: taking the lowest item of the set is the run program's order.
 use Prim.Native.Nat.{ℕ, _+_, _-_, _*_, _≤_, _<_}
-use mathlib.Core.Path.{_≡_, refl, sym, _∙_, ap, subst}
+use mathlib.Core.Path.{_≡_, sym, _∙_, ap, subst}
 use mathlib.Core.Bool.{Bool, true, false, not, _&&_, and-true as and-always}
 use mathlib.Core.List.{List}
 use native.Mathlib.Nat.{mul-le-mul}
@@ -56,7 +56,7 @@ module _ (w : List ℕ) (F : Formed w) where
       (subst (Idle w) (sym (O .left)) (opened-idle w (plan-long w F) (plan-formed w F) (O .counts) (O .values) (O .long-counts) (O .long-values)))
 
   -- the steps taken are no more than two for each pass of each item
-  pub going-below : (s₀ s : Lent) (steps : ℕ) → Going w s₀ s steps → steps ≤ 2 * (itemCount (bodyOf w) * passesOf w)
+  going-below : (s₀ s : Lent) (steps : ℕ) → Going w s₀ s steps → steps ≤ 2 * (itemCount (bodyOf w) * passesOf w)
   going-below s₀ s steps G = subst (λ (B : Body). steps ≤ 2 * (itemCount B * B .passes)) (plan-body w F) (going-most w (plan-long w F) (plan-formed w F) s₀ s steps G)
 
   pub going-small : (s₀ s : Lent) (steps n : ℕ) → Going w s₀ s steps → n ≡ itemCount (bodyOf w) → n ≤ maxItems → steps ≤ 2 * (maxItems * maxPasses)
@@ -90,6 +90,10 @@ module _ (w : List ℕ) (F : Formed w) where
 
       pub turn-going : (C2 W2 : List ℕ) → lent C2 W2 ≡ lentBy (finished w (started w C W a .counts) (started w C W a .values) a) → Going w s₀ (lent C2 W2) (steps + 2)
       turn-going C2 W2 t = subst (λ (x : Lent). Going w s₀ x (steps + 2)) (sym t) (going-turn w (plan-long w F) (plan-formed w F) s₀ (lent C W) steps G a below ready none-lower)
+
+      pub turn-below : (C2 W2 : List ℕ) → lent C2 W2 ≡ lentBy (finished w (started w C W a .counts) (started w C W a .values) a) →
+          steps + 2 ≤ 2 * (itemCount (bodyOf w) * passesOf w)
+      turn-below C2 W2 t = going-below s₀ (lent C2 W2) (steps + 2) (turn-going C2 W2 t)
 
     -- there is none
     pub turns-over : (n : ℕ) → n ≡ itemCount (bodyOf w) → n ≤ maxItems → maxItems ≤ a → Over w (lent C W)

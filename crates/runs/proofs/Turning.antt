@@ -29,7 +29,7 @@ use Rattle.plan.specs.Limits.{maxPasses}
 use Rattle.plan.specs.Layout.{bodyOf}
 use Rattle.plan.specs.Sizes.{maxItems, countWords, firstFinished, firstUnmet, firstHeld}
 use Rattle.graph.specs.Answers.{planBody}
-use Rattle.masks.specs.Masks.{maskWords, inMask, Entered}
+use Rattle.masks.specs.Masks.{inMask, Entered}
 use Rattle.rows.specs.Rows.{leadsTo}
 use Rattle.rows.specs.Numbers.{numberAt, Apart, loweredBy, isFreed, hasNext, countedFinish, isNext}
 use Rattle.rows.proofs.Lowering.{lowered-length, lowered-before, lowered-at}

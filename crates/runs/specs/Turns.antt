@@ -1,5 +1,6 @@
--- What a run goes by besides the lent state: the edges of the plan by rows, and the set of the items
--- that are ready. It serves the contracts of private functions: nothing here need be believed.
+-- What a run goes by besides the lent state: the edges of the plan by rows, and the set of the
+-- items that are ready. It serves the contracts of private functions: nothing here need be
+-- believed.
 use Prim.Native.Nat.{ℕ, _+_, _-_, _≤_, _<_}
 use mathlib.Core.Path.{_≡_}
 use mathlib.Core.Bool.{true, false, not, _&&_}

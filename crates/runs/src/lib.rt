@@ -55,8 +55,8 @@ fn pass_word(plan: &[u64], code: u64, a: usize, counts: &mut [Count], values: &m
     write_item(plan, code, a, values);
 }
 
-// Item a, which has so many passes, starts and finishes. With the items in step, its finish takes one
-// off the number of each item that it has an edge to, and it waits for all its sources then.
+// Item a, which has so many passes, starts and finishes. With the items in step, its finish takes
+// one off the number of each item that it has an edge to, and it waits for all its sources then.
 fn take_turn(
     plan: &[u64],
     code: u64,

@@ -1,6 +1,6 @@
 -- While an item runs, every item that shares a place with it which one of them writes stands where
--- the items in order leave it. So a finish meets each edge from the item to an instance that is made,
--- and each edge to it is open after it.
+-- the items in order leave it. So a finish meets each edge from the item to an instance that is
+-- made, and each edge to it is open after it.
 use Prim.Native.Nat.{ℕ, suc, _+_, _-_, _≤_, _<_}
 use mathlib.Core.Path.{_≡_, refl, sym, _∙_, ap, subst}
 use mathlib.Core.Bool.{Bool, true, false, cond, not, _&&_, and-false}

@@ -1,6 +1,6 @@
--- What a finish does to the numbers in a state that calls reach from an opening. Every item that has
--- an edge to or from one that runs then stands where the items in order leave it, so that no finished
--- pass of another item need be looked at.
+-- What a finish does to the numbers in a state that calls reach from an opening. Every item that
+-- has an edge to or from one that runs then stands where the items in order leave it, so that no
+-- finished pass of another item need be looked at.
 use Prim.Native.Nat.{ℕ, suc, _-_, _<_}
 use mathlib.Core.Path.{_≡_}
 use mathlib.Core.Bool.{Bool, cond, not, _&&_}

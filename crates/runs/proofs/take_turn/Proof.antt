@@ -1,4 +1,4 @@
-use mathlib.Core.Path.{_≡_, refl}
+use mathlib.Core.Path.{refl}
 use borrow.Author.Needs.{needs}
 use denote.Ref.{now}
 use Rattle.runs.proofs.Turning.{started-small, long-begun, apart-begun, long-lowered, done-lowered-small, out-lowered, counts-are, set-after, turn-left}

@@ -11,7 +11,7 @@ use Rattle.steps.specs.Calls.{lent}
 use Rattle.steps.specs.Turns.{Going}
 use Rattle.values.proofs.Plans.{passes-few}
 use Rattle.runs.specs.Turns.{ReadyBut, FirstReady}
-use Rattle.runs.proofs.Taking.{first-ready, ready-but, going-starts, going-below, going-small, turn-item, turn-going, turns-over, code-few}
+use Rattle.runs.proofs.Taking.{first-ready, ready-but, going-starts, going-small, turn-item, turn-going, turn-below, turns-over, code-few}
 use Rattle.runs.proofs.take_turns.Statement.{statement}
 use Rattle.runs.proofs.take_turns.Tie as tie
 
@@ -99,9 +99,8 @@ loop-less c =
     let l = turn .loop in
     omega (
       arith,
-      going-below _ (P .1 .plan) _ _ _
-          (turn-going _ (P .1 .plan) (lent (now (s .args .counts)) (now (s .args .values))) (l .counts) (l .values) (l .steps) (l .inv .0) (l .a) (l .inv .1)
-          (inside .loop-test .taken) _ _ (taken .take-turn .ensures .0)),
+      turn-below _ (P .1 .plan) (lent (now (s .args .counts)) (now (s .args .values))) (l .counts) (l .values) (l .steps) (l .inv .0) (l .a) (l .inv .1)
+          (inside .loop-test .taken) _ _ (taken .take-turn .ensures .0),
     )
 
 loop-again : tie.Need-loop-again Inv-loop μ-loop
