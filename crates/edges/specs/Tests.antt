@@ -1,4 +1,5 @@
--- Whether an edge stands, as a test of numbers. The crates above go by it; `proofs/` shows that it is the rule of the crate unroll.
+-- Whether an edge stands, as a test of numbers. The crates above go by it; `proofs/` shows that it
+-- is the rule of the crate unroll.
 use Prim.Native.Nat.{ℕ, _+_, _-_}
 use mathlib.Core.Bool.{Bool, cond, not, _&&_, _||_}
 use lib.Dec.{eqb, ltb, leb}

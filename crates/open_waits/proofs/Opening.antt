@@ -2,17 +2,17 @@
 -- items.
 use Prim.Native.Nat.{ℕ, _+_, _-_, _/_, _%_, _≤_, _<_}
 use mathlib.Core.Path.{_≡_, refl, sym, _∙_, ap}
-use mathlib.Core.Bool.{Bool, true, false, cond, _&&_, _||_, and-false}
+use mathlib.Core.Bool.{Bool, true, false, cond, _&&_, and-false}
 use mathlib.Core.List.{List}
-use native.Mathlib.Decide.{decLt, ℕ-discrete}
+use native.Mathlib.Decide.{decLt}
 use native.Mathlib.Omega.{arith}
-use borrow.Author.Tests.{eq-eqb, ne-eqb, ltb-true, lt-ltb, le-ltb, le-leb, lt-leb}
-use lib.Dec.{eqb, ltb, leb}
+use borrow.Author.Tests.{ltb-true, lt-ltb, le-ltb, le-leb}
+use lib.Dec.{ltb}
 use lib.ListN.{length, getD, set, replicate, length-replicate, getD-replicate, List·getD-eq-default}
 use Rattle.finite.specs.Below.{countBelow}
 use Rattle.finite.specs.Update.{replaced}
 use Rattle.finite.proofs.Below.{count-ext}
-use Rattle.finite.proofs.Replaced.{replaced-set, replaced-where, replaced-nowhere}
+use Rattle.finite.proofs.Within.{within, within-filled-more}
 use Rattle.body.specs.Body.{Body, Fits}
 use Rattle.body.specs.Items.{itemCount, itemPasses}
 use Rattle.body.specs.Places.{system}
@@ -90,44 +90,14 @@ passed-none B heads writers nexts seen h w n s =
     none : (x b c link : ℕ) → 1 ≤ c → link ≡ 0 → onChain nexts link b ≡ sinceWith B (x / 128) (x % 128) c 0 0 b
     none x b c link l e = rw (e, chain-none nexts b) (sym (since-none B (x / 128) (x % 128) c 0 b l ∙ since-start B (x / 128) (x % 128) c b))
 
--- the loop: the numbers of the items below a are set
-
-abbrev pub isNumber : ℕ → ℕ → Bool
-isNumber a i = leb firstUnmet i && ltb i (firstUnmet + a)
-
-number-none : (i : ℕ) → isNumber 0 i ≡ false
-number-none i =
-    elim (decLt i firstUnmet) [
-      | yes l ↦ rw (lt-leb firstUnmet i l)
-      | no l ↦ rw (le-ltb i (firstUnmet + 0) (omega arith)) (and-false (leb firstUnmet i))
-    ]
-
-number-next : (a i : ℕ) → (eqb i (firstUnmet + a) || isNumber a i) ≡ isNumber (a + 1) i
-number-next a i =
-    elim (ℕ-discrete i (firstUnmet + a)) [
-      | yes e ↦ rw (eq-eqb i (firstUnmet + a) e, le-leb firstUnmet i (omega arith), lt-ltb i (firstUnmet + (a + 1)) (omega arith))
-      | no e ↦
-          elim (decLt i (firstUnmet + a)) [
-            | yes l ↦ rw (ne-eqb i (firstUnmet + a) e, lt-ltb i (firstUnmet + a) l, lt-ltb i (firstUnmet + (a + 1)) (omega arith))
-            | no l ↦ rw (ne-eqb i (firstUnmet + a) e, le-ltb i (firstUnmet + a) (omega arith), le-ltb i (firstUnmet + (a + 1)) (omega (arith, e)))
-          ]
-    ]
-
-pub numbers-none : (B : Body) (xs : List ℕ) → xs ≡ replaced (isNumber 0) (openCount B) xs
-numbers-none B xs = replaced-nowhere (isNumber 0) (openCount B) xs (λ i l. number-none i)
-
-pub numbers-done : (B : Body) (xs ys : List ℕ) (n a : ℕ) → ys ≡ replaced (isNumber a) (openCount B) xs → n ≤ a → a ≤ n → ys ≡ replaced (isNumber n) (openCount B) xs
-numbers-done B xs ys n a h k l = let e : a ≡ n = omega arith in h ∙ ap (λ (m : ℕ). replaced (isNumber m) (openCount B) xs) e
-
+-- a turn of the loop: the numbers of the items below a are set
 module _ (w table : List ℕ) (n : ℕ) (G : Graph w table n) (a : ℕ) (below : a < n) (passes code own sources number : ℕ) (p : passes ≡ passesOf w) (c : code ≡ getD table a 0)
     (o : own ≡ passes - codeFewer code) (s : sources ≡ countBelow (itemCount (bodyOf w)) (isSource (bodyOf w) a)) (v : number ≡ cond (ltb 0 own) sources 0) where
   own-is : own ≡ itemPasses (bodyOf w) a
   own-is = o ∙ (ap (λ (k : ℕ). k - codeFewer code) p ∙ code-passes w table n G a below code c)
 
-  pub numbers-more : (xs ys : List ℕ) → ys ≡ replaced (isNumber a) (openCount (bodyOf w)) xs → countWords ≤ length xs →
-      set ys (firstUnmet + a) number ≡ replaced (isNumber (a + 1)) (openCount (bodyOf w)) xs
+  pub numbers-more : (xs ys : List ℕ) → ys ≡ replaced (within firstUnmet a) (openCount (bodyOf w)) xs → countWords ≤ length xs →
+      set ys (firstUnmet + a) number ≡ replaced (within firstUnmet (a + 1)) (openCount (bodyOf w)) xs
   numbers-more xs ys h l =
-      ap (λ (zs : List ℕ). set zs (firstUnmet + a) number) h
-      ∙ (replaced-set (isNumber a) (openCount (bodyOf w)) xs (firstUnmet + a) number (omega (arith, G .most))
+      within-filled-more firstUnmet (openCount (bodyOf w)) xs ys a number h (omega (arith, G .most))
       (open-number (bodyOf w) (body-fits w table n G) a (omega (arith, G .count)) number (v ∙ rw (own-is, s)))
-      ∙ replaced-where (λ i. eqb i (firstUnmet + a) || isNumber a i) (isNumber (a + 1)) (openCount (bodyOf w)) xs (λ i m. number-next a i))

@@ -1,8 +1,8 @@
 -- The three demands on the runtime, stated over the contracts of its functions (src/lib.rt): the
 -- definitions that they are equated with, `openOf`, `startOf`, `finishOf`, `resultOf` of the crate
 -- steps, and the records that hold of their answers, `Reads`, `ItemsAnswer`, `EdgesAnswer`,
--- `TotalAnswer`, `ReadyAnswer`, `Played` and `WriteAnswer`. Proved in proofs/Demands.antt. That nothing undefined
--- is done and every call ends is the check of the code itself.
+-- `TotalAnswer`, `ReadyAnswer`, `Played` and `WriteAnswer`. Proved in proofs/Demands.antt. That
+-- nothing undefined is done and every call ends is the check of the code itself.
 use Prim.Native.Nat.{ℕ, suc, _+_, _-_, _*_, _≤_, _<_}
 use mathlib.Core.Path.{_≡_}
 use mathlib.Core.Bool.{Bool, true, false, cond}

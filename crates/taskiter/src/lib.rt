@@ -1,6 +1,6 @@
 // The runtime, as a C host calls it: reading, writing, opening, start, finish and result on lent
-// slices, lists of these, the items that are ready, and the graph besides (include/taskiter.h). A call looks at the plan and
-// the state that it is lent, and keeps nothing between calls.
+// slices, lists of these, the items that are ready, and the graph besides (include/taskiter.h). A
+// call looks at the plan and the state that it is lent, and keeps nothing between calls.
 ghost use mathlib.Core.Path.{_≡_};
 ghost use mathlib.Core.Bool.{cond};
 ghost use Rattle.reader.specs.Answer.{Reads};

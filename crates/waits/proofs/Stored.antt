@@ -1,24 +1,23 @@
--- The numbers in a list, in the shape of code, and the laws of the loop that lowers them (-none, -more, -done: before its first turn, over a turn,
--- and after its last).
+-- The numbers in a list, in the shape of code, and the laws of the loop that lowers them (-none,
+-- -more, -done: before its first turn, over a turn, and after its last).
 use Prim.Native.Nat.{ℕ, suc, _+_, _-_, _≤_, _<_}
 use mathlib.Core.Path.{_≡_, refl, sym, _∙_, ap}
-use mathlib.Core.Bool.{Bool, true, false, cond, not, _&&_, _||_, or-true}
-use mathlib.Core.Logic.{_⊎_, ⊎-elim, _↔_}
-use mathlib.Core.List.{List, [], _∷_}
+use mathlib.Core.Bool.{Bool, true, false, cond, _&&_, _||_}
+use mathlib.Core.Logic.{_⊎_, ⊎-elim}
+use mathlib.Core.List.{List}
 use native.Mathlib.Decide.{decLt, ℕ-discrete}
 use native.Mathlib.Omega.{arith}
-use borrow.Author.Tests.{eq-eqb, ne-eqb, lt-ltb, le-ltb, ltb-true, le-leb, lt-leb, not-true}
+use borrow.Author.Tests.{eq-eqb, ne-eqb, lt-ltb, le-ltb, le-leb, lt-leb}
 use lib.Dec.{eqb, ltb, leb}
 use lib.ListN.{length, getD, set, length-set}
 use lib.Seq.{getD-set-other}
-use Rattle.finite.specs.Lists.{mem, distinct}
-use Rattle.finite.specs.Update.{update, replaced}
-use Rattle.finite.proofs.Tests.{and-intro, and-true, eqb-from, test-ext}
+use Rattle.finite.specs.Update.{update}
+use Rattle.finite.proofs.Tests.{eqb-from}
 use Rattle.finite.proofs.Update.{set-at}
 use Rattle.finite.proofs.Replaced.{length-replaced, replaced-at, replaced-not, replaced-nowhere, replaced-where, replaced-set}
 use Rattle.unroll.specs.System.{System}
 use Rattle.waits.specs.Waits.{freshCount, meets, lowered, numbersAfter}
-use Rattle.waits.specs.Stored.{loweredTo, finishedNumbers, loweredAll}
+use Rattle.waits.specs.Stored.{loweredTo, finishedNumbers}
 
 -- a test of the places from `first` on
 module _ (first : ℕ) where
@@ -42,24 +41,6 @@ module _ (first : ℕ) where
         | yes l ↦ rw (lt-leb first i l, ne-eqb i (first + x) (λ e. omega arith))
         | no l ↦ (let m : first ≤ i = omega arith in rw (le-leb first i m, from-eqb i x m))
       ]
-
-  -- over a list
-  pub lowered-all : (k l : List ℕ) → distinct k ≡ true → ((a : ℕ) → mem a k ≡ true → first + a < length l) →
-      loweredAll first k l ≡ replaced (λ i. leb first i && mem (i - first) k) (λ i. getD l i 0 - 1) l
-  unfolding loweredAll distinct mem
-  lowered-all [] l d h = replaced-nowhere (λ i. leb first i && mem (i - first) []) (λ i. getD l i 0 - 1) l (λ i m. never (leb first i))
-    where
-      never : (t : Bool) → (t && false) ≡ false
-      never true = refl
-      never false = refl
-  lowered-all (x ∷ k) l d h =
-      let u = and-true (not (mem x k)) (distinct k) d in
-      let e : loweredAll first k l ≡ replaced (λ i. leb first i && mem (i - first) k) (λ i. getD l i 0 - 1) l = lowered-all k l (u .1) (λ a m. h a (rw m (or-true (eqb a x)))) in
-      ap (λ (y : List ℕ). set y (first + x) (getD y (first + x) 0 - 1)) e
-      ∙ (replaced-set (λ i. leb first i && mem (i - first) k) (λ i. getD l i 0 - 1) l (first + x) _ (h x (rw (eq-eqb x x refl)))
-      (ap (λ (y : ℕ). y - 1) (replaced-not (λ i. leb first i && mem (i - first) k) (λ i. getD l i 0 - 1) l (first + x) (from-at (λ a. mem a k) x ∙ not-true (mem x k) (u .0))))
-      ∙ replaced-where (λ i. eqb i (first + x) || (leb first i && mem (i - first) k)) (λ i. leb first i && (eqb (i - first) x || mem (i - first) k)) (λ i. getD l i 0 - 1) l
-      (λ i m. from-one (λ a. mem a k) x i))
 
 module _ (S : System) (edge : ℕ → ℕ → Bool) (first : ℕ) where
   module _ (fin : ℕ → ℕ) (b : ℕ) where
@@ -133,20 +114,6 @@ module _ (S : System) (edge : ℕ → ℕ → Bool) (first : ℕ) where
 
     pub lower-done : (n x : ℕ) (l m : List ℕ) → m ≡ loweredTo S edge first fin b x l → n ≤ x → x ≤ n → m ≡ loweredTo S edge first fin b n l
     lower-done n x l m e h k = let q : n ≡ x = omega arith in rw q e
-
-    pub listed : (k l : List ℕ) → first + S .items ≤ length l → distinct k ≡ true →
-        ((a : ℕ) → (mem a k ≡ true) ↔ ((a < S .items) × (meets S edge fin b a ≡ true))) → loweredAll first k l ≡ loweredTo S edge first fin b (S .items) l
-    unfolding loweredTo
-    listed k l h d m =
-        lowered-all first k l d (λ a t. omega (arith, m a .0 t .0))
-        ∙ replaced-where (λ i. leb first i && mem (i - first) k) (λ i. leb first i && among (S .items) (i - first)) (λ i. getD l i 0 - 1) l
-        (λ i q. from-ext first i (λ a. mem a k) (among (S .items)) each)
-      where
-        each : (a : ℕ) → mem a k ≡ among (S .items) a
-        each a =
-            test-ext (mem a k) (among (S .items) a)
-            (λ t. let u = m a .0 t in and-intro (ltb a (S .items)) (meets S edge fin b a) (lt-ltb a (S .items) (u .0)) (u .1))
-            (λ t. let u = and-true (ltb a (S .items)) (meets S edge fin b a) t in m a .1 (ltb-true a (S .items) (u .0), u .1))
 
     pub finished-length : (l : List ℕ) → length (finishedNumbers S edge first fin b l) ≡ length l
     unfolding finishedNumbers

@@ -2,7 +2,7 @@
 -- of code. What else stands in the list stays.
 use Prim.Native.Nat.{ℕ, suc, _+_, _-_}
 use mathlib.Core.Bool.{Bool, _&&_}
-use mathlib.Core.List.{List, [], _∷_}
+use mathlib.Core.List.{List}
 use lib.Dec.{ltb, leb}
 use lib.ListN.{getD, set}
 use Rattle.finite.specs.Update.{update, replaced}
@@ -18,8 +18,3 @@ module _ (S : System) (edge : ℕ → ℕ → Bool) (first : ℕ) where
   -- counted afresh
   unfoldable pub finishedNumbers : (ℕ → ℕ) → ℕ → List ℕ → List ℕ
   finishedNumbers fin b l = set (loweredTo fin b (S .items) l) (first + b) (freshCount S edge (update fin b (suc (fin b))) b)
-
--- one off the number of each item of a list, one after another
-unfoldable pub loweredAll : ℕ → List ℕ → List ℕ → List ℕ
-loweredAll first [] l = l
-loweredAll first (a ∷ k) l = set (loweredAll first k l) (first + a) (getD (loweredAll first k l) (first + a) 0 - 1)

@@ -4,17 +4,19 @@ use borrow.Author.Needs.{needs}
 use lib.ListN.{length, length-set}
 use denote.Ref.{now}
 use Rattle.finite.specs.Update.{replaced}
+use Rattle.finite.proofs.Within.{within, within-filled-none, within-filled-done}
+use Rattle.plan.specs.Sizes.{firstUnmet}
 use Rattle.plan.specs.Layout.{bodyOf}
 use Rattle.graph.proofs.Lookup.{fewer-few}
 use Rattle.steps.specs.Answers.{openCount}
 use Rattle.open_waits.specs.Sources.{ItemsPassed}
-use Rattle.open_waits.proofs.Opening.{isNumber, passed-none, numbers-none, numbers-more, numbers-done}
+use Rattle.open_waits.proofs.Opening.{passed-none, numbers-more}
 use Rattle.open_waits.proofs.open_numbers.Statement.{statement}
 use Rattle.open_waits.proofs.open_numbers.Tie as tie
 
 abbrev Inv-loop : tie.InvT-loop
 Inv-loop plan table n counts₀ passes heads₀ writers₀ nexts₀ seen₀ a₀ counts heads writers nexts seen a =
-    (a ≤ n) × (length counts ≡ length counts₀) × (counts ≡ replaced (isNumber a) (openCount (bodyOf plan)) counts₀)
+    (a ≤ n) × (length counts ≡ length counts₀) × (counts ≡ replaced (within firstUnmet a) (openCount (bodyOf plan)) counts₀)
     × ItemsPassed (bodyOf plan) a heads writers nexts seen
 
 abbrev μ-loop : tie.MeasureT-loop
@@ -23,7 +25,7 @@ abbrev μ-loop : tie.MeasureT-loop
 loop-holds : tie.Need-loop-holds Inv-loop μ-loop
 loop-holds c =
     let s = c .before .before .before in
-    (search needs, refl, numbers-none (bodyOf (now (s .args .plan))) (now (s .args .counts)), passed-none (bodyOf (now (s .args .plan))) _ _ _ _ refl refl refl refl)
+    (search needs, refl, within-filled-none firstUnmet (openCount (bodyOf (now (s .args .plan)))) (now (s .args .counts)), passed-none (bodyOf (now (s .args .plan))) _ _ _ _ refl refl refl refl)
 
 own-passes-requires : tie.Need-own-passes-requires Inv-loop μ-loop
 own-passes-requires c κs = search (needs, fewer-few)
@@ -46,7 +48,7 @@ returns : tie.Need-returns Inv-loop μ-loop
 returns c =
     let s = c .before .before .before .before .before in
     let l = c .before .loop in
-    numbers-done (bodyOf (now (s .args .plan))) (now (s .args .counts)) _ _ (l .a) (l .inv .2) (search needs) (search needs)
+    within-filled-done firstUnmet (openCount (bodyOf (now (s .args .plan)))) (now (s .args .counts)) _ _ (l .a) (l .inv .2) (search needs) (search needs)
 
 pub open-numbers-spec : {M : Type 1} → statement M
 open-numbers-spec =
