@@ -222,6 +222,7 @@ void short_group(struct trial *trial, struct rng *rng) {
         try_call(trial, OPEN_CALL, least, 0);
     try_all(trial, rng, (struct lengths){PLAN_WORDS - 1, COUNTS, VALUES});
     try_all(trial, rng, (struct lengths){PLAN_WORDS, COUNTS - 1, VALUES});
+    try_all(trial, rng, (struct lengths){PLAN_WORDS, FIRST_UNMET, VALUES}); /* as of version 4 */
     try_all(trial, rng, (struct lengths){PLAN_WORDS, COUNTS, VALUES - 1});
     try_all(trial, rng, (struct lengths){0, 0, 0});
     for (int k = 0; k < 4; k++)

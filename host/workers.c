@@ -3,9 +3,9 @@
    once, and finishes come in any order. A worker that is idle takes an item of its ranks from the
    list of those that are ready. The list is asked for anew after a finish; a start takes its own
    item off it and no other. So no start is refused. The calls come one after another. Prints the
-   steps taken, how often the list was asked for, the most items that ran at once, the ticks and the
-   values. Exit status 0 where no step was refused, and each word and value is the unrolled
-   loop's. */
+   items, the steps taken, how often the list was asked for, the most items that ran at once, the
+   ticks and the values. Exit status 0 where no step was refused, and each word and value is the
+   unrolled loop's. */
 #include <inttypes.h>
 #include <stdio.h>
 #include <stdlib.h>

@@ -201,7 +201,7 @@ module _ (B : Body) where
 
   -- the items that one waits for by its places
 
-  pub hits-none : (q a b : ℕ) → hits B q a (λ g. 0) b ≡ false
+  hits-none : (q a b : ℕ) → hits B q a (λ g. 0) b ≡ false
   unfolding hits
   hits-none q a b = any-never (λ g. isSince B q g 3 a b) 128 (λ g l. since-never q g 3 a b (omega arith))
 

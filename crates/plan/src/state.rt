@@ -34,8 +34,8 @@ pub fn own_passes(passes: Count, code: u16) -> Count
 // Items that a plan can have: 128 tasks, and a send and a receive for each of 256 transfers.
 pub const MAX_ITEMS: usize = 640;
 
-// The counts: a the started passes of item a, FIRST_FINISHED + a its finished passes, FIRST_UNMET + a
-// how many of its waits are unmet.
+// The counts: a the started passes of item a, FIRST_FINISHED + a its finished passes, and
+// FIRST_UNMET + a how many of its waits are unmet.
 pub const COUNTS: usize = 1920;
 
 pub const FIRST_FINISHED: usize = 640;
@@ -49,9 +49,7 @@ pub const FIRST_SLOT: usize = 2048;
 
 pub const FIRST_HELD: usize = 2688;
 
-// Edges that a plan can have, and the numbers of a list of them, three an edge.
-pub const MAX_EDGES: usize = 4224;
-
+// The numbers of a list of all edges that a plan can have, three an edge.
 pub const EDGE_WORDS: usize = 12672;
 
 // The results: a word for each region.

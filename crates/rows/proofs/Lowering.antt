@@ -76,7 +76,7 @@ module _ (edges : List ℕ) (lo : ℕ) where
     pub freed : Entered words (isFreed edges lo k counts) words′
 
   module _ (counts words : List ℕ) (long : countWords ≤ length counts) where
-    pub lowered-none : length words ≡ maskWords → Lowered counts words 0 counts words
+    lowered-none : length words ≡ maskWords → Lowered counts words 0 counts words
     unfolding loweredBy isFreed leadsTo anyBelow
     lowered-none e =
         record {
@@ -142,7 +142,7 @@ module _ (edges : List ℕ) (lo : ℕ) where
                 and-right false = refl
             side false q = rw (and-false (eqb (numberAt counts b) 1)) (or-false (leadsTo edges lo k c && eqb (numberAt counts c) 1))
 
-        pub lowered-more : (counts″ words″ : List ℕ) → counts″ ≡ set counts′ (firstUnmet + b) (numberAt counts′ b - 1) → Entered words′ (isLast counts′ b) words″ →
+        lowered-more : (counts″ words″ : List ℕ) → counts″ ≡ set counts′ (firstUnmet + b) (numberAt counts′ b - 1) → Entered words′ (isLast counts′ b) words″ →
             Lowered counts words (k + 1) counts″ words″
         lowered-more counts″ words″ e F =
             record {

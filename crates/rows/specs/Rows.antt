@@ -37,7 +37,7 @@ module _ (edges : List ℕ) where
   unfoldable pub sourceCount : ℕ → ℕ → ℕ
   sourceCount k b = countBelow k (λ e. eqb b (toAt e) && not (eqb (fromAt e) b))
 
-  -- the edges from lo to below hi lead to items each
+  -- the edges from lo to below hi are a row: no two of them lead to the same item
   pub record Row (m lo hi : ℕ) : Type 0 where
     pub rise : lo ≤ hi
     pub most : hi ≤ m

@@ -44,7 +44,7 @@ module _ (plan counts values : List ℕ) (few : itemCount (planBody plan) ≤ ma
   pub opened-finished : (a : ℕ) → a < itemCount (planBody plan) → doneBy (opened plan counts values .counts) a ≡ 0
   opened-finished a l = opened-at (firstFinished + a) (omega arith) ∙ rw (finished-count (planBody plan) a l) (open-none (firstFinished + a) (omega arith))
 
-  pub opened-number : (a : ℕ) → a < itemCount (planBody plan) → unmetBy (opened plan counts values .counts) a ≡ freshCount (system (planBody plan)) (edgeTest (planBody plan)) (λ b. 0) a
+  opened-number : (a : ℕ) → a < itemCount (planBody plan) → unmetBy (opened plan counts values .counts) a ≡ freshCount (system (planBody plan)) (edgeTest (planBody plan)) (λ b. 0) a
   unfolding openCount
   opened-number a l =
       let e : firstUnmet + a - firstUnmet ≡ a = omega arith in

@@ -34,7 +34,8 @@ use Rattle.steps.specs.Answers.{Left, longSlices, openOf}
 use Rattle.steps.specs.Calls.{Call, start, finish, result, isStart, isFinish, isStep, Lent, lentBy, play, replies, accepted}
 use Rattle.taskiter.proofs.Freshness.{fresh-all}
 use Rattle.taskiter.specs.Demands.{startsOf, finishesOf, callAfter, AtEnd, InAnyOrder}
-use Rattle.steps.proofs.Accepting.{Clear, long-slices, open-opened, open-accepted, result-shown, result-complete}
+use Rattle.steps.proofs.Accepting.{Clear, long-slices, open-opened, open-accepted, start-rule, result-shown, result-complete}
+use Rattle.steps.proofs.Refusals.{start-16}
 use Rattle.steps.proofs.Simulating.{Tied, opened-tied, tied-clear, start-follows, finish-follows}
 use Rattle.steps.proofs.Playing.{stepsOf, callOf, steps-calls, steps-append, picks-start, picks-finish, picks-steps, replies-at, step-follows, play-tied, play-accepted}
 
@@ -159,6 +160,10 @@ module _ (plan : List ℕ) (long : planWords ≤ length plan) (formed : formedPl
         results = λ k m g e z. results k g z;
         counted = counted l;
         numbers = fresh-all plan formed (play plan s l .counts) (play plan s l .values) (tied l .fresh);
+        accepts-starts = start-rule plan (play plan s l .counts) (play plan s l .values) (clear l) (tied l .fresh);
+        waits = λ a.
+            let k = start-16 plan (play plan s l .counts) (play plan s l .values) a (tied l .fresh) in
+            (λ e. let h = k .0 e in (h .1, h .2, h .3, h .4), λ h. k .1 (clear l, h .0, h .1, h .2, h .3));
         replied = replied l;
         goes-on = goes-on l;
         leads-on = leads-on l;

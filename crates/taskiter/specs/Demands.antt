@@ -328,8 +328,12 @@ module _ (B : Body) (plan : List ℕ) (s : Lent) where
     -- the counts of the state are those of accepted starts and finishes
     pub counted : (a : ℕ) → a < itemCount B →
         (getD (play plan s l .counts) a 0 ≡ startsOf a l) × (getD (play plan s l .counts) (firstFinished + a) 0 ≡ finishesOf a l)
-    -- each number of unmet waits is a fresh count over the edges
+    -- each number of unmet waits is a fresh count over the edges, so a start is accepted after the
+    -- list, and refused with 16, by the rule of waits
     pub numbers : AllFresh B (play plan s l .counts) (play plan s l .values)
+    pub accepts-starts : (a : ℕ) → (callAfter l (start a) .refusal ≡ 0) ↔ StartRule (system B) (stateOf (play plan s l .counts) (play plan s l .values)) a
+    pub waits : (a : ℕ) → let t = stateOf (play plan s l .counts) (play plan s l .values) in (callAfter l (start a) .refusal ≡ 16)
+        ↔ ((a < itemCount B) × (t .finished a < itemPasses B a) × (t .started a ≡ t .finished a) × (StartRule (system B) t a → ⊥))
     -- what the calls of the list answer, one after another
     pub replied : (k m : List Call) (c : Call) → l ≡ k ++ (c ∷ m) → getD (replies plan s l) (length k) (callAfter l c) ≡ callAfter k c
     -- the list does not stop short: while an item has a pass left some step is accepted, and accepted steps lead on to the end

@@ -55,13 +55,13 @@ module _ (S : System) (edge : ℕ → ℕ → Bool) (first : ℕ) where
     unfolding loweredTo
     lower-before k l i h = replaced-not (λ i. leb first i && among k (i - first)) (λ i. getD l i 0 - 1) l i (from-before first (among k) i h)
 
-    pub lower-behind : (k : ℕ) (l : List ℕ) (i : ℕ) → first + k ≤ i → getD (loweredTo S edge first fin b k l) i 0 ≡ getD l i 0
+    lower-behind : (k : ℕ) (l : List ℕ) (i : ℕ) → first + k ≤ i → getD (loweredTo S edge first fin b k l) i 0 ≡ getD l i 0
     unfolding loweredTo
     lower-behind k l i h =
         replaced-not (λ i. leb first i && among k (i - first)) (λ i. getD l i 0 - 1) l i
         (rw (le-leb first i (omega arith), le-ltb (i - first) k (omega arith)))
 
-    pub lower-at : (k : ℕ) (l : List ℕ) (a : ℕ) → a < k → first + a < length l →
+    lower-at : (k : ℕ) (l : List ℕ) (a : ℕ) → a < k → first + a < length l →
         getD (loweredTo S edge first fin b k l) (first + a) 0 ≡ cond (meets S edge fin b a) (getD l (first + a) 0 - 1) (getD l (first + a) 0)
     unfolding loweredTo
     lower-at k l a h m =
