@@ -31,7 +31,7 @@ use values::places::write_places;
 use walk::rows::mark_edges;
 
 // The word that item a holds goes to the places that it writes, and is answered.
-pub fn write_item(plan: &[u64], code: u64, a: usize, values: &mut [u64]) -> u64
+fn write_item(plan: &[u64], code: u64, a: usize, values: &mut [u64]) -> u64
     requires { ⌜ Found (now plan) a code × (valueWords ≤ length (now values)) ⌝ }
     ensures { λ r. ⌜
         (r ≡ getD (now (values .entry)) (firstHeld + a) 0)

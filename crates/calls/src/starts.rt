@@ -23,7 +23,7 @@ use plan::state::own_passes;
 use values::places::item_word;
 
 // Item a reads and computes its word, which is held and answered; the start is counted.
-pub fn start_item(
+fn start_item(
     plan: &[u64],
     code: u64,
     a: usize,

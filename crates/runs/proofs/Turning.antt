@@ -9,12 +9,13 @@ use native.Mathlib.Omega.{arith}
 use borrow.Author.Tests.{eqb-true, ltb-true, eq-eqb, ne-eqb, lt-ltb, le-ltb, le-leb, lt-leb}
 use lib.Dec.{eqb, ltb, leb}
 use lib.ListN.{length, getD, set, length-set}
-use lib.Seq.{getD-set-other}
+use lib.Seq.{getD-set-same, getD-set-other}
 use Rattle.finite.specs.Lists.{mem}
 use Rattle.finite.specs.Update.{update, replaced}
 use Rattle.finite.proofs.Tests.{and-true, eqb-from}
 use Rattle.finite.proofs.Update.{set-at}
 use Rattle.finite.proofs.Replaced.{replaced-ext}
+use Rattle.unroll.specs.Sequential.{wordOn}
 use Rattle.body.specs.Body.{Body}
 use Rattle.body.specs.Items.{itemCount, itemAt, itemPasses}
 use Rattle.body.specs.Places.{system}
@@ -27,7 +28,7 @@ use Rattle.waits.proofs.Unmet.{count-done}
 use Rattle.waits.proofs.InStep.{step-agree}
 use Rattle.plan.specs.Limits.{maxPasses}
 use Rattle.plan.specs.Layout.{bodyOf}
-use Rattle.plan.specs.Sizes.{maxItems, countWords, firstFinished, firstUnmet, firstHeld}
+use Rattle.plan.specs.Sizes.{maxItems, countWords, valueWords, firstFinished, firstUnmet, firstHeld}
 use Rattle.graph.specs.Answers.{planBody}
 use Rattle.masks.specs.Masks.{inMask, Entered}
 use Rattle.rows.specs.Rows.{leadsTo}
@@ -40,24 +41,31 @@ use Rattle.steps.specs.Turns.{isReady}
 use Rattle.values.specs.Items.{Found}
 use Rattle.values.proofs.Plans.{passes-few, plan-body}
 use Rattle.values.proofs.Finding.{number-most}
-use Rattle.calls.specs.declared.Answer.{Answer}
-use Rattle.calls.specs.Told.{told}
+use Rattle.calls.proofs.Behind.{started-is}
 use Rattle.runs.specs.Turns.{Tables, ReadyBut, Turn}
 
 -- a start, and the word written
-module _ (w C W C1 W1 : List ℕ) (a code : ℕ) (r : Answer) (F : Found w a code) (s : told r C1 W1 ≡ started w C W a) where
-  pub start-counts : C1 ≡ started w C W a .counts
-  start-counts = ap (λ (x : Left). x .counts) s
+module _ (w C W : List ℕ) (a code : ℕ) (F : Found w a code) (word : ℕ) (computed : word ≡ wordOn (system (bodyOf w)) a (λ x. getD W x 0)) where
+  pub start-counts : set C a (getD C a 0 + 1) ≡ started w C W a .counts
+  start-counts = ap (λ (x : Left). x .counts) (started-is w a code F C W word computed)
 
-  pub start-values : W1 ≡ started w C W a .values
-  start-values = ap (λ (x : Left). x .values) s
+  pub start-values : set W (firstHeld + a) word ≡ started w C W a .values
+  start-values = ap (λ (x : Left). x .values) (started-is w a code F C W word computed)
 
-  pub word-passed : (W2 : List ℕ) → W2 ≡ replaced (λ x. mem x (system (bodyOf w) .writes a)) (λ x. getD W1 (firstHeld + a) 0) W1 →
-      W2 ≡ finished w (started w C W a .counts) (started w C W a .values) a .values
-  word-passed W2 e =
+  pub word-passed : valueWords ≤ length W → (l W2 : List ℕ) → l ≡ system (bodyOf w) .writes a →
+      W2 ≡ replaced (λ x. mem x l) (λ x. word) (set W (firstHeld + a) word) → W2 ≡ finished w (started w C W a .counts) (started w C W a .values) a .values
+  word-passed long l W2 listed e =
       e
+      ∙ (ap (λ (v : ℕ). replaced (λ x. mem x l) (λ x. v) W1) (sym held)
+      ∙ (ap (λ (k : List ℕ). replaced (λ x. mem x k) (λ x. getD W1 (firstHeld + a) 0) W1) listed
       ∙ (ap (λ (x : List ℕ). replaced (λ i. mem i (system (bodyOf w) .writes a)) (λ i. getD x (firstHeld + a) 0) x) start-values
-      ∙ ap (λ (B : Body). replaced (λ i. mem i (system B .writes a)) (λ i. getD (started w C W a .values) (firstHeld + a) 0) (started w C W a .values)) (sym (plan-body w (F .plan))))
+      ∙ ap (λ (B : Body). replaced (λ i. mem i (system B .writes a)) (λ i. getD (started w C W a .values) (firstHeld + a) 0) (started w C W a .values)) (sym (plan-body w (F .plan))))))
+    where
+      W1 : List ℕ
+      W1 = set W (firstHeld + a) word
+
+      held : getD W1 (firstHeld + a) 0 ≡ word
+      held = getD-set-same W (firstHeld + a) word 0 (omega (arith, number-most w a code F))
 
 module _ (w : List ℕ) (a code own : ℕ) (C W words : List ℕ) (X : Turn w a code own C W words) where
   below : a < itemCount (planBody w)

@@ -11,6 +11,7 @@ ghost use Rattle.steps.specs.Answers.{started, finished, openOf};
 ghost use Rattle.steps.specs.Calls.{lent, lentBy};
 ghost use Rattle.steps.specs.Turns.{Going, Over};
 ghost use Rattle.values.specs.Items.{Found};
+ghost use Rattle.places.specs.Lists.{Places};
 ghost use Rattle.calls.specs.Drawn.{Drawn};
 ghost use Rattle.runs.specs.Turns.{Edges, Tables, ReadyBut, Turn, Opened};
 
@@ -20,29 +21,40 @@ pub mod shown;
 use crate::ready::put_ready;
 use crate::shown::copy_items;
 use calls::drawing::list_edges;
-use calls::finishes::write_item;
 use calls::openings::open_clear;
-use calls::starts::start_item;
 use masks::MASK_WORDS;
 use masks::take_lowest;
 use plan::layout::pass_count;
 use plan::numbers::index_16;
 use plan::numbers::wide_16;
 use plan::state::Count;
+use plan::state::FIRST_HELD;
 use plan::state::MAX_ITEMS;
 use plan::state::own_passes;
+use places::LISTS;
+use places::listing::list_places;
+use places::word_by;
+use places::write_by;
 use rows::ROWS;
 use rows::count_sources;
 use rows::find_rows;
 use rows::numbers::count_finish;
 use rows::numbers::lower_row;
 
-// Item a computes its word, which goes to the places that it writes; the start is counted, and the
-// finish not yet.
-fn pass_word(plan: &[u64], code: u64, a: usize, counts: &mut [Count], values: &mut [u64])
+// Item a computes its word, which is held and goes to the places that it writes; the start is
+// counted, and the finish not yet.
+fn pass_word(
+    plan: &[u64],
+    code: u64,
+    a: usize,
+    reads: &[u16; LISTS],
+    writes: &[u16; LISTS],
+    counts: &mut [Count],
+    values: &mut [u64],
+)
     requires { ⌜
         Found (now plan) a code × (countWords ≤ length (now counts)) × (valueWords ≤ length (now values))
-        × (getD (now counts) a 0 < maxPasses)
+        × (getD (now counts) a 0 < maxPasses) × Places (now plan) (now reads) (now writes)
         ⌝ }
     ensures { λ _. ⌜
         (now (counts .exit) ≡ started (now (plan .entry)) (now (counts .entry)) (now (values .entry)) a .counts)
@@ -51,8 +63,10 @@ fn pass_word(plan: &[u64], code: u64, a: usize, counts: &mut [Count], values: &m
         (started (now (plan .entry)) (now (counts .entry)) (now (values .entry)) a .values) a .values)
         ⌝ }
 {
-    start_item(plan, code, a, counts, values);
-    write_item(plan, code, a, values);
+    let word = word_by(plan, code, a, reads, values);
+    values[FIRST_HELD + a] = word;
+    counts[a] += 1;
+    write_by(a, writes, values, word);
 }
 
 // Item a, which has so many passes, starts and finishes. With the items in step, its finish takes
@@ -66,13 +80,15 @@ fn take_turn(
     m: usize,
     rows: &[u16; ROWS],
     sources: &[u64; MAX_ITEMS],
+    reads: &[u16; LISTS],
+    writes: &[u16; LISTS],
     counts: &mut [Count],
     values: &mut [u64],
     words: &mut [u64],
 )
     requires { ⌜
         Turn (now plan) a code own (now counts) (now values) (now words) × Ends (now edges) m × Tables (now plan) (now edges) m (now rows) (now sources)
-        × (a < maxItems)
+        × (a < maxItems) × Places (now plan) (now reads) (now writes)
         ⌝ }
     ensures { λ _. ⌜
         (lent (now (counts .exit)) (now (values .exit)) ≡ lentBy (finished (now (plan .entry))
@@ -83,7 +99,7 @@ fn take_turn(
 {
     let lo = index_16(rows[a]);
     let hi = index_16(rows[a + 1]);
-    pass_word(plan, code, a, counts, values);
+    pass_word(plan, code, a, reads, writes, counts, values);
     lower_row(edges, m, lo, hi, counts, words);
     count_finish(counts, words, a, own, sources[a]);
 }
@@ -97,12 +113,14 @@ fn take_turns(
     m: usize,
     rows: &[u16; ROWS],
     sources: &[u64; MAX_ITEMS],
+    reads: &[u16; LISTS],
+    writes: &[u16; LISTS],
     counts: &mut [Count],
     values: &mut [u64],
 ) -> u64
     requires { ⌜
         Graph (now plan) (now table) n × Edges (now plan) (now edges) n m × Tables (now plan) (now edges) m (now rows) (now sources)
-        × Opened (now plan) (lent (now counts) (now values))
+        × Opened (now plan) (lent (now counts) (now values)) × Places (now plan) (now reads) (now writes)
         ⌝ }
     ensures { λ r. ⌜
         Going (now (plan .entry)) (lent (now (counts .entry)) (now (values .entry))) (lent (now (counts .exit)) (now (values .exit))) r
@@ -125,6 +143,8 @@ fn take_turns(
             m,
             rows,
             sources,
+            reads,
+            writes,
             counts,
             values,
             &mut words,
@@ -155,7 +175,23 @@ fn run_opened(
     find_rows(edges, m, &mut rows);
     let mut sources = [0u64; MAX_ITEMS];
     count_sources(edges, m, &mut sources);
-    take_turns(plan, table, n, edges, m, &rows, &sources, counts, values)
+    let mut reads = [0u16; LISTS];
+    list_places(plan, table, n, false, &mut reads);
+    let mut writes = [0u16; LISTS];
+    list_places(plan, table, n, true, &mut writes);
+    take_turns(
+        plan,
+        table,
+        n,
+        edges,
+        m,
+        &rows,
+        &sources,
+        &reads,
+        &writes,
+        counts,
+        values,
+    )
 }
 
 // How many edges were listed, and how many steps were taken.

@@ -35,7 +35,7 @@ use plan::numbers::one_if;
 use plan::state::slot_of;
 
 // Where the copies of an item's rank start.
-fn first_copy(plan: &[u64], code: u64, a: usize) -> usize
+pub fn first_copy(plan: &[u64], code: u64, a: usize) -> usize
     requires { ⌜ Found (now plan) a code ⌝ }
     ensures { λ r. ⌜ (r ≡ rankAt (bodyOf (now (plan .entry))) a * bodyOf (now (plan .entry)) .regions) × (r ≤ 1920) ⌝ }
 {

@@ -9,7 +9,7 @@ pass-word-requires : tie.Need-pass-word-requires
 pass-word-requires c κs =
     let s = c .before .before .before .before .before .before .before .before .before .before .before in
     let X = s .pre .0 in
-    (X .found, X .idle .long-counts, X .idle .long-values, started-small _ _ _ _ (now (s .args .counts)) (now (s .args .values)) (now (s .args .words)) X)
+    (X .found, X .idle .long-counts, X .idle .long-values, started-small _ _ _ _ (now (s .args .counts)) (now (s .args .values)) (now (s .args .words)) X, s .pre .4)
 
 lower-row-requires : tie.Need-lower-row-requires
 lower-row-requires c κs =

@@ -16,12 +16,12 @@ use Rattle.runs.proofs.take_turns.Statement.{statement}
 use Rattle.runs.proofs.take_turns.Tie as tie
 
 abbrev Inv-loop : tie.InvT-loop
-Inv-loop plan table n edges m rows sources counts₀ values₀ passes words₀ steps₀ a₀ counts values words steps a =
+Inv-loop plan table n edges m rows sources reads writes counts₀ values₀ passes words₀ steps₀ a₀ counts values words steps a =
     Going plan (lent counts₀ values₀) (lent counts values) steps × FirstReady plan counts a × ReadyBut plan counts a words × (length words ≡ maskWords)
     × (length counts ≡ length counts₀) × (length values ≡ length values₀)
 
 abbrev μ-loop : tie.MeasureT-loop
-μ-loop plan table n edges m rows sources counts₀ values₀ passes words₀ steps₀ a₀ counts values words steps a =
+μ-loop plan table n edges m rows sources reads writes counts₀ values₀ passes words₀ steps₀ a₀ counts values words steps a =
     2 * (itemCount (bodyOf plan) * passesOf plan) - steps
 
 pass-count-requires : tie.Need-pass-count-requires Inv-loop μ-loop
@@ -76,6 +76,7 @@ take-turn-requires c κs =
       P .1 .ends,
       P .2,
       inside .loop-test .taken,
+      P .4,
     )
 
 add-steps : tie.Need-add-steps Inv-loop μ-loop
