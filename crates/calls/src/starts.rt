@@ -23,13 +23,7 @@ use plan::state::own_passes;
 use values::places::item_word;
 
 // Item a reads and computes its word, which is held and answered; the start is counted.
-fn start_item(
-    plan: &[u64],
-    code: u64,
-    a: usize,
-    counts: &mut [Count],
-    values: &mut [u64],
-) -> Answer
+fn start_item(plan: &[u64], code: u64, a: usize, counts: &mut [Count], values: &mut [u64]) -> Answer
     requires { ⌜
         Found (now plan) a code × (countWords ≤ length (now counts)) × (valueWords ≤ length (now values))
         × (getD (now counts) a 0 < maxPasses)

@@ -1,7 +1,7 @@
 -- Laws of lists in rows: reading them, writing by them, and a row more.
-use Prim.Native.Nat.{ℕ, zero, suc, _+_, _-_, _*_, _≤_, _<_}
+use Prim.Native.Nat.{ℕ, zero, suc, _+_, _-_, _≤_, _<_}
 use mathlib.Core.Path.{_≡_, refl, sym, _∙_, ap, subst}
-use mathlib.Core.Bool.{Bool, true, cond}
+use mathlib.Core.Bool.{true}
 use mathlib.Core.List.{List, _++_, map}
 use native.Mathlib.Decide.{decLt}
 use native.Mathlib.Omega.{arith}
@@ -14,7 +14,7 @@ use Rattle.finite.proofs.Tabulate.{tabulate-ext, tabulate-list, map-tabulate}
 use Rattle.finite.proofs.Members.{at-in, in-mem}
 use Rattle.plan.specs.Limits.{maxAccesses}
 use Rattle.plan.specs.Sizes.{valueWords}
-use Rattle.places.specs.Lists.{listWords, rowAt, countAt, placeAt, listAt, Row, Lists}
+use Rattle.places.specs.Lists.{rowAt, countAt, placeAt, listAt, Row, Lists}
 
 -- all numbers below n are gathered
 gather-all : (n : ℕ) (f : ℕ → ℕ) → gather n (λ k. true) f ≡ tabulate n f
@@ -115,8 +115,12 @@ module _ (table ys : List ℕ) (r e c at : ℕ) (end : e ≡ r + 8) (put : at �
       record {
         few = omega (arith, count-at, l);
         below = λ k m.
-        omega (arith, lent-at k (omega (arith, count-at, l, m)), getD-take c ys k 0 (omega (arith, count-at, m)),
-        at-below (take c ys) h k (omega (arith, count-at, m, length-take-le c ys (omega (arith, size)))));
+            omega (
+              arith,
+              lent-at k (omega (arith, count-at, l, m)),
+              getD-take c ys k 0 (omega (arith, count-at, m)),
+              at-below (take c ys) h k (omega (arith, count-at, m, length-take-le c ys (omega (arith, size)))),
+            );
       }
 
   pub lists-more : (f : ℕ → List ℕ) (a : ℕ) → r ≡ rowAt a → Lists f a table → c ≤ maxAccesses → take c ys ≡ f a → ((x : ℕ) → mem x (f a) ≡ true → x < valueWords) →

@@ -11,7 +11,7 @@ use Rattle.body.specs.Items.{itemCount}
 use Rattle.body.specs.Places.{system}
 use Rattle.plan.specs.Limits.{maxAccesses}
 use Rattle.plan.specs.Sizes.{valueWords}
-use Rattle.plan.specs.Layout.{isRead, isWritten, readsOf, writesOf, bodyOf}
+use Rattle.plan.specs.Layout.{readsOf, writesOf, bodyOf}
 
 -- the rows of all items
 abbrev pub listWords : ℕ

@@ -22,9 +22,9 @@ use plan::layout::kernel_of;
 use plan::numbers::index_16;
 
 // The numbers of a row: the places of an item, and behind them how many.
-pub const ROW: usize = 9;
+pub(crate) const ROW: usize = 9;
 
-pub const COUNT: usize = 8;
+pub(crate) const COUNT: usize = 8;
 
 // The rows of all items.
 pub const LISTS: usize = 5760;

@@ -28,12 +28,17 @@ use plan::numbers::wide_16;
 use plan::state::MAX_ITEMS;
 use plan::state::slot_of;
 use values::places::first_copy;
+use values::results::pick;
 
 // Whether an access writes its region, or else whether it reads it.
 fn uses_region(access: u64, write: bool) -> bool
     ensures { λ r. ⌜ r ≡ cond write (writes access) (reads access) ⌝ }
 {
-    if write { writes_region(access) } else { reads_region(access) }
+    if write {
+        writes_region(access)
+    } else {
+        reads_region(access)
+    }
 }
 
 // Puts the copies that task i writes, or else reads, into a row. Those of its rank stand from
@@ -54,13 +59,6 @@ fn list_task(plan: &[u64], i: usize, first: usize, write: bool, row: &mut [u16])
         k += 1;
     }
     n
-}
-
-// x where `yes` holds, else y.
-fn pick(yes: bool, x: usize, y: usize) -> usize
-    ensures { λ r. ⌜ r ≡ cond yes x y ⌝ }
-{
-    if yes { x } else { y }
 }
 
 // So for the slot and the copy of a send or a receive.
@@ -88,17 +86,17 @@ fn list_item(plan: &[u64], code: u64, a: usize, write: bool, row: &mut [u16]) ->
     if kind == TASK {
         return list_task(plan, subject, first, write, row);
     }
-    list_moved(kind == RECEIVE, write, slot_of(kind, a), first + subject, row)
+    list_moved(
+        kind == RECEIVE,
+        write,
+        slot_of(kind, a),
+        first + subject,
+        row,
+    )
 }
 
 // Lists the places that each item writes, or else those that it reads.
-pub fn list_places(
-    plan: &[u64],
-    items: &[u16; MAX_ITEMS],
-    n: usize,
-    write: bool,
-    table: &mut [u16],
-)
+pub fn list_places(plan: &[u64], items: &[u16; MAX_ITEMS], n: usize, write: bool, table: &mut [u16])
     requires { ⌜ Graph (now plan) (now items) n × (length (now table) ≡ listWords) ⌝ }
     ensures { λ _. ⌜ Lists (placesOf (bodyOf (now (plan .entry))) write) n (now (table .exit)) ⌝ }
 {

@@ -41,7 +41,7 @@ fn task_writes(plan: &[u64], i: usize, g: usize) -> bool
 }
 
 // i where `yes` holds, else the other.
-fn pick(yes: bool, i: usize, other: usize) -> usize
+pub fn pick(yes: bool, i: usize, other: usize) -> usize
     ensures { λ r. ⌜ r ≡ cond yes i other ⌝ }
 {
     if yes { i } else { other }

@@ -1,7 +1,5 @@
-use Prim.Native.Nat.{_<_}
-use mathlib.Core.Path.{_≡_, sym, _∙_}
+use mathlib.Core.Path.{sym, _∙_}
 use native.Mathlib.Omega.{arith}
-use Rattle.values.proofs.Finding.{task-below}
 use Rattle.places.proofs.Found.{moved-reads, moved-word, task-word}
 use borrow.Author.Needs.{needs}
 use Rattle.places.proofs.computed_word.Statement.{statement}

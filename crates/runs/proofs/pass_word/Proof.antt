@@ -55,9 +55,10 @@ returns c =
     let s = word .before .before .before .before .before in
     let F = s .pre .0 in
     let C = now (s .args .counts) in
-    let W = now (s .args .values) in
-    (start-counts _ C W _ _ F _ (word .word-by .ensures),
-     word-passed _ C W _ _ F _ (word .word-by .ensures) (s .pre .2) (listAt (now (s .args .writes)) (rowAt (s .args .a))) _ (s .pre .4 .written .each (s .args .a) (F .below)) (write .write-by .ensures))
+    let W = now (s .args .values) in (
+      start-counts _ C W _ _ F _ (word .word-by .ensures),
+      word-passed _ C W _ _ F _ (word .word-by .ensures) (s .pre .2) (listAt (now (s .args .writes)) (rowAt (s .args .a))) _ (s .pre .4 .written .each (s .args .a) (F .below)) (write .write-by .ensures),
+    )
 
 pub pass-word-spec : {M : Type 1} → statement M
 pass-word-spec =

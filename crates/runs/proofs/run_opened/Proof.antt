@@ -1,4 +1,3 @@
-use denote.Ref.{now}
 use Rattle.places.proofs.Found.{places-listed}
 use Rattle.runs.proofs.Rowing.{tables}
 use borrow.Author.Needs.{needs}
