@@ -36,7 +36,7 @@ use Rattle.steps.specs.Answers.{Left, countOk, isComplete, startTests, finishTe
 use Rattle.steps.specs.Answers.{started, startOf, finished, finishedCounts, finishOf, shown, resultOf, openCount, isCopy, isSlot, isHeld, openOf}
 use Rattle.values.specs.Items.{Formed, Found}
 use Rattle.values.proofs.Plans.{plan-whole}
-use Rattle.values.proofs.Finding.{whole-plan}
+use Rattle.values.proofs.Finding.{found-at, whole-plan}
 use Rattle.calls.specs.declared.Answer.{Answer}
 use Rattle.calls.specs.Told.{told}
 use Rattle.calls.specs.Doors.{Clear}
@@ -72,9 +72,6 @@ module _ (w table : List ℕ) (n : ℕ) (G : Graph w table n) where
 
   pub whole : take planWords w ≡ w
   whole = plan-whole w graph-formed
-
-  pub found-at : (a code : ℕ) → a < n → code ≡ getD table a 0 → Found w a code
-  found-at a code l e = record { plan = graph-formed; below = omega (arith, G .count); coded = e ∙ G .each a l }
 
   -- two steps for each of them
   pub total-is : (passes : ℕ) → passes ≡ passesOf w → (steps : ℕ) → steps ≡ sumBelow n (λ a. 2 * (passes - codeFewer (getD table a 0))) → steps ≡ totalSteps (bodyOf w)

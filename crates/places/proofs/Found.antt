@@ -17,7 +17,7 @@ use Rattle.edges.specs.Tests.{rankAt}
 use Rattle.plan.specs.Sizes.{valueWords, slotOf}
 use Rattle.plan.specs.Code.{codeKind, codeSubject}
 use Rattle.plan.specs.Layout.{bodyOf, kernelOf, constantOf, accessesOf, regionAt, isRead, isWritten}
-use Rattle.graph.specs.Table.{subjectOf, Graph}
+use Rattle.graph.specs.Table.{subjectOf}
 use Rattle.steps.proofs.Placing.{place-below}
 use Rattle.values.specs.Items.{Found}
 use Rattle.values.proofs.Finding.{found-kind, found-subject, found-task, receive-least}
@@ -52,15 +52,6 @@ pub moved-read : (receives : Bool) (write : Bool) (at g x : ℕ) (xs : List ℕ)
 unfolding placesMoved
 moved-read receives write at g x [] t l e = absurd (omega arith)
 moved-read receives write at g x (z ∷ zs) t l e = rw (t, e)
-
--- an item of the table
-pub listed-found : (w items : List ℕ) (n : ℕ) → Graph w items n → (a code : ℕ) → a < n → code ≡ getD items a 0 → Found w a code
-listed-found w items n G a code l e =
-    record {
-      plan = record { long = G .long; formed = G .formed };
-      below = omega (arith, G .count);
-      coded = e ∙ G .each a l;
-    }
 
 module _ (w : List ℕ) (a code : ℕ) (F : Found w a code) where
   pub places-below : (write : Bool) (x : ℕ) → mem x (placesOf (bodyOf w) write a) ≡ true → x < valueWords

@@ -32,6 +32,10 @@ receive-of (task i) e = absurd (omega arith)
 receive-of (send i g q) e = absurd (omega arith)
 receive-of (receive i g q) e = (i, q, refl)
 
+-- an item of the item table
+pub found-at : (w table : List ℕ) (n : ℕ) → Graph w table n → (a code : ℕ) → a < n → code ≡ getD table a 0 → Found w a code
+found-at w table n G a code l e = record { plan = record { long = G .long; formed = G .formed }; below = omega (arith, G .count); coded = e ∙ G .each a l }
+
 module _ (w : List ℕ) (a code : ℕ) (F : Found w a code) where
   -- the item table, as a list
   table : List ℕ

@@ -1,7 +1,7 @@
 use mathlib.Core.Path.{sym, _∙_}
 use native.Mathlib.Omega.{arith}
-use Rattle.places.proofs.Found.{moved-reads, moved-word, task-word}
 use borrow.Author.Needs.{needs}
+use Rattle.places.proofs.Found.{moved-reads, moved-word, task-word}
 use Rattle.places.proofs.computed_word.Statement.{statement}
 use Rattle.places.proofs.computed_word.Tie as tie
 

@@ -1,13 +1,13 @@
 use Prim.Native.Nat.{_+_}
 use mathlib.Core.Path.{_∙_}
 use native.Mathlib.Omega.{arith}
+use borrow.Author.Needs.{needs}
 use denote.Ref.{now}
 use lib.ListN.{length-set}
 use Rattle.plan.specs.Sizes.{firstHeld}
 use Rattle.values.proofs.Finding.{number-most}
 use Rattle.places.specs.Lists.{rowAt, listAt}
 use Rattle.runs.proofs.Turning.{start-counts, word-passed}
-use borrow.Author.Needs.{needs}
 use Rattle.runs.proofs.pass_word.Statement.{statement}
 use Rattle.runs.proofs.pass_word.Tie as tie
 

@@ -1,6 +1,6 @@
+use borrow.Author.Needs.{needs}
 use Rattle.places.proofs.Found.{places-listed}
 use Rattle.runs.proofs.Rowing.{tables}
-use borrow.Author.Needs.{needs}
 use Rattle.runs.proofs.run_opened.Statement.{statement}
 use Rattle.runs.proofs.run_opened.Tie as tie
 

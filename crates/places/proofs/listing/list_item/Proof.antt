@@ -1,10 +1,10 @@
+use Prim.Native.Nat.{ℕ}
 use mathlib.Core.Path.{sym, _∙_, ap}
 use native.Mathlib.Omega.{arith}
-use Prim.Native.Nat.{ℕ}
+use borrow.Author.Needs.{needs}
 use Rattle.plan.specs.Sizes.{slotOf}
 use Rattle.values.proofs.Finding.{found-ready, number-most, kind-most}
 use Rattle.places.proofs.Found.{task-listed, moved-listed}
-use borrow.Author.Needs.{needs}
 use Rattle.places.proofs.listing.list_item.Statement.{statement}
 use Rattle.places.proofs.listing.list_item.Tie as tie
 

@@ -1,8 +1,8 @@
-use lib.ListN.{length-set}
-use native.Mathlib.Omega.{arith}
 use mathlib.Core.Path.{_∙_}
-use Rattle.places.proofs.Found.{cond-below, moved-written, moved-read}
+use native.Mathlib.Omega.{arith}
 use borrow.Author.Needs.{needs}
+use lib.ListN.{length-set}
+use Rattle.places.proofs.Found.{cond-below, moved-written, moved-read}
 use Rattle.places.proofs.listing.list_moved.Statement.{statement}
 use Rattle.places.proofs.listing.list_moved.Tie as tie
 

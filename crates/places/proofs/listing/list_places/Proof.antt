@@ -1,13 +1,14 @@
-use borrow.Author.Needs.{needs}
 use Prim.Native.Nat.{ℕ, _+_, _-_, _≤_}
 use mathlib.Core.Path.{_≡_, refl, _∙_, ap}
 use native.Mathlib.Omega.{arith}
+use borrow.Author.Needs.{needs}
 use denote.Ref.{now}
 use lib.ListN.{length, take, drop, length-drop}
 use lib.Seq.{length-take-le}
 use Rattle.plan.specs.Layout.{bodyOf}
+use Rattle.values.proofs.Finding.{found-at}
 use Rattle.places.specs.Lists.{listWords, rowAt, placesOf, Lists}
-use Rattle.places.proofs.Found.{listed-found, places-below}
+use Rattle.places.proofs.Found.{places-below}
 use Rattle.places.proofs.Listed.{length-row, lists-none, lists-more, lists-done}
 use Rattle.places.proofs.listing.list_places.Statement.{statement}
 use Rattle.places.proofs.listing.list_places.Tie as tie
@@ -28,7 +29,7 @@ list-item-requires c κs =
     let inside = wide .before .before in
     let l = inside .before .loop in
     let s = inside .before .before .before .before in (
-      listed-found _ (now (s .args .items)) _ (s .pre .0) (l .a) _ (inside .loop-test .taken) (wide .wide-16 .ensures .0),
+      found-at _ (now (s .args .items)) _ (s .pre .0) (l .a) _ (inside .loop-test .taken) (wide .wide-16 .ensures .0),
       omega (
         arith,
         length-take-le ((rowAt (l .a) + 8) - rowAt (l .a)) (drop (rowAt (l .a)) (l .table))
@@ -46,7 +47,7 @@ loop-again c =
     let room : rowAt (l .a) + 9 ≤ length (l .table) = omega (arith, l .inv .1, inside .loop-test .taken, s .pre .0 .most) in
     let row = put .list-item .last .1 .1 .1 .1 .0 in
     let size : length row ≡ (rowAt (l .a) + 8) - rowAt (l .a) = (c .before .before .before) .table .given .0 ∙ length-take-le _ (drop (rowAt (l .a)) (l .table)) (omega (arith, length-drop (rowAt (l .a)) (l .table), room)) in
-    let F = listed-found _ (now (s .args .items)) _ (s .pre .0) (l .a) _ (inside .loop-test .taken) (wide .wide-16 .ensures .0) in
+    let F = found-at _ (now (s .args .items)) _ (s .pre .0) (l .a) _ (inside .loop-test .taken) (wide .wide-16 .ensures .0) in
     let e = c .narrow-16 .ensures ∙ c .before .as-word .ensures in (
       search needs,
       length-row (l .table) row (rowAt (l .a)) (rowAt (l .a) + 8) _ (rowAt (l .a) + 8) refl refl room size ∙ l .inv .1,

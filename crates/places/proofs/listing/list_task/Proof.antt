@@ -1,7 +1,7 @@
-use borrow.Author.Needs.{needs}
 use Prim.Native.Nat.{ℕ, _+_, _-_, _≤_}
 use mathlib.Core.Bool.{Bool, cond}
 use mathlib.Core.Path.{_≡_, refl, _∙_, ap}
+use borrow.Author.Needs.{needs}
 use lib.ListN.{length, take, length-set}
 use Rattle.finite.specs.Lists.{gather}
 use Rattle.finite.proofs.Lists.{gather-none, gather-more, gather-done}
