@@ -4,7 +4,7 @@
 // stand in specs/Sources.antt.
 ghost use Prim.Native.Nat.{ℕ, _+_, _-_, _*_, _≤_, _<_};
 ghost use mathlib.Core.Path.{_≡_};
-ghost use mathlib.Core.Bool.{cond, _&&_};
+ghost use mathlib.Core.Bool.{_&&_};
 ghost use lib.Dec.{eqb, ltb, leb};
 ghost use lib.ListN.{length, getD};
 ghost use Rattle.finite.specs.Below.{countBelow};
@@ -31,6 +31,7 @@ use plan::numbers::as_index;
 use plan::numbers::as_word;
 use plan::numbers::index_16;
 use plan::numbers::narrow_16;
+use plan::numbers::number_if;
 use plan::numbers::wide_16;
 use plan::state::Count;
 use plan::state::FIRST_UNMET;
@@ -205,17 +206,8 @@ fn count_sources(
     )
 }
 
-// The number of an item: how many sources it has, or 0 if it has no pass.
-fn open_number(passes: Count, sources: Count) -> Count
-    ensures { λ r. ⌜ r ≡ cond (ltb 0 passes) sources 0 ⌝ }
-{
-    if passes == 0 {
-        return 0;
-    }
-    sources
-}
-
-// The numbers of unmet waits at the opening.
+// The numbers of unmet waits at the opening: of each item how many sources it has, 0 if it has no
+// pass.
 pub fn open_numbers(plan: &[u64], table: &[u16; MAX_ITEMS], n: usize, counts: &mut [Count])
     requires { ⌜ Graph (now plan) (now table) n × (countWords ≤ length (now counts)) ⌝ }
     ensures { λ _. ⌜
@@ -239,7 +231,7 @@ pub fn open_numbers(plan: &[u64], table: &[u16; MAX_ITEMS], n: usize, counts: &m
             &mut nexts,
             &mut seen,
         );
-        counts[FIRST_UNMET + a] = open_number(own_passes(passes, table[a]), sources);
+        counts[FIRST_UNMET + a] = number_if(0 < own_passes(passes, table[a]), sources);
         a += 1;
     }
 }

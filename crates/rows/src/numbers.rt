@@ -1,7 +1,7 @@
 // The numbers of unmet waits in the counts, and the set of the items that are ready, over a finish.
 ghost use Prim.Native.Nat.{_+_, _-_, _≤_, _<_};
 ghost use mathlib.Core.Path.{_≡_};
-ghost use mathlib.Core.Bool.{false, cond};
+ghost use mathlib.Core.Bool.{false};
 ghost use lib.ListN.{length, getD, set};
 ghost use Rattle.plan.specs.Limits.{maxPasses};
 ghost use Rattle.plan.specs.Sizes.{maxItems, countWords, firstFinished, firstUnmet};
@@ -10,6 +10,7 @@ ghost use Rattle.rows.specs.Rows.{Ends, Row};
 ghost use Rattle.rows.specs.Numbers.{numberAt, Apart, isLast, loweredBy, isFreed, countedFinish, isNext};
 use crate::target;
 use masks::insert;
+use plan::numbers::number_if;
 use plan::state::Count;
 use plan::state::FIRST_FINISHED;
 use plan::state::FIRST_UNMET;
@@ -54,13 +55,6 @@ pub fn lower_row(
         lower_number(counts, words, target(edges, e, m));
         e += 1;
     }
-}
-
-// A number where it holds, else 0.
-fn number_if(holds: bool, number: u64) -> u64
-    ensures { λ r. ⌜ r ≡ cond holds number 0 ⌝ }
-{
-    if holds { number } else { 0 }
 }
 
 // Counts a finish of item a. If it has a pass left, it then waits for each of its sources; where it

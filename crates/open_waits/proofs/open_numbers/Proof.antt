@@ -40,7 +40,7 @@ loop-again c =
       search needs,
       simp length-set (search needs),
       numbers-more _ _ _ (s .pre .0) (l .a) (inside .loop-test .taken) _ _ _ _ _ (turn .before .passes-of .ensures) refl (c .before .own-passes .ensures) (found .count-sources .ensures .0)
-          (c .open-number .ensures) (now (s .args .counts)) (l .counts) (l .inv .2) (s .pre .1),
+          (c .number-if .ensures) (now (s .args .counts)) (l .counts) (l .inv .2) (s .pre .1),
       found .count-sources .ensures .1,
     )
 
