@@ -1,12 +1,14 @@
-/* Makes one call through the C boundary, for an instruction count of it: steps (start|finish|ready|result|open|short) PLAN [ITEM]. The call is
-   made by `measured` alone. Before a start or finish of an item in pass 0 the items before it have finished that pass, so that the call is
-   accepted, and before ready too; before a result all items have finished their passes. The counts are put by hand, and the unmet waits counted
-   over the edges. Prints the number of items; fails where the call is not answered as it should be. */
+/* Makes one call through the C boundary, for an instruction count of it:
+   steps (start|finish|ready|result|open|short) PLAN [ITEM]. The call is made by `measured` alone.
+   Before a start or finish of an item in pass 0, and before ready, the items before it have
+   finished that pass, so that the call is accepted; before a result all items have finished their
+   passes. The passes are put by hand, and the unmet waits counted over the edges. Prints the number
+   of items; fails where the call is not answered as it should be. */
 #include <stddef.h>
 #include <stdint.h>
 #include <stdlib.h>
 
-#include "../include/taskiter.h"
+#include "../host/recount.h"
 #include "plans.h"
 
 static char text[TEXT_ROOM];
@@ -14,7 +16,6 @@ static uint64_t plan[TASKITER_PLAN_WORDS];
 static TASKITER_COUNT_TYPE counts[TASKITER_COUNTS];
 static uint64_t values[TASKITER_VALUES];
 static uint16_t items[TASKITER_MAX_ITEMS], ready[TASKITER_MAX_ITEMS];
-static uint32_t edges[TASKITER_EDGE_NUMBERS];
 
 static uint64_t measured(const char *call, uint64_t item) __attribute__((noinline));
 
@@ -35,24 +36,6 @@ static uint64_t measured(const char *call, uint64_t item) {
     }
 }
 
-/* The passes that an item has. */
-static uint64_t own_passes(uint64_t item) {
-    uint64_t passes = plan[0], fewer = TASKITER_ITEM_FEWER(items[item]);
-    return passes > fewer ? passes - fewer : 0;
-}
-
-/* Counts the unmet waits of each item, by the finished passes. */
-static void count_waits(uint64_t number) {
-    const TASKITER_COUNT_TYPE *finished = counts + TASKITER_FIRST_FINISHED;
-    TASKITER_COUNT_TYPE *unmet = counts + TASKITER_FIRST_UNMET;
-    uint64_t last = taskiter_edges(plan, TASKITER_PLAN_WORDS, edges, TASKITER_EDGE_NUMBERS).number;
-    memset(unmet, 0, number * sizeof *unmet);
-    for (uint64_t e = 0; e < last; e++) {
-        uint64_t from = edges[3 * e], to = edges[3 * e + 1], distance = edges[3 * e + 2], pass = finished[to];
-        unmet[to] += pass < own_passes(to) && finished[from] + distance <= pass && pass - distance < own_passes(from);
-    }
-}
-
 int main(int argc, char **argv) {
     if (argc < 3)
         return 2;
@@ -66,8 +49,8 @@ int main(int argc, char **argv) {
     uint64_t number = taskiter_items(plan, TASKITER_PLAN_WORDS, items, TASKITER_MAX_ITEMS).number;
     int whole = strcmp(call, "result") == 0;
     for (uint64_t a = 0; a < (whole ? number : item); a++)
-        counts[a] = counts[TASKITER_FIRST_FINISHED + a] = whole ? own_passes(a) : 1;
-    count_waits(number);
+        counts[a] = counts[TASKITER_FIRST_FINISHED + a] = whole ? recount_passes(plan, items[a]) : 1;
+    recount_waits(plan, counts);
     if (strcmp(call, "finish") == 0)
         counts[item] = 1;
     uint64_t refusal = measured(call, item);

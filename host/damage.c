@@ -49,7 +49,7 @@ void put_item_counts(struct trial *trial, int item, uint64_t started, uint64_t f
 
 void put_counts_near(struct trial *trial, struct rng *rng, uint64_t passes, uint64_t fewer) {
     for (int a = 0; a < trial->shape.graph.items; a++) {
-        uint64_t own = own_passes(&trial->shape.plan, &trial->shape.graph.item[a]),
+        uint64_t own = own_of(trial, a),
                  f = passes - draw_word_below(rng, (fewer < passes ? fewer : passes) + 1);
         f = f < own ? f : own;
         put_item_counts(trial, a, f + (f < own && draw_below(rng, 3) == 0), f);

@@ -29,10 +29,6 @@ static void try_limit(struct trial *trial, struct rng *rng) {
         differ(trial, "a plan of %" PRIu64 " passes is not refused with 12", limit + 1);
 }
 
-static uint64_t own_of(const struct trial *trial, int item) {
-    return own_passes(&trial->shape.plan, &trial->shape.graph.item[item]);
-}
-
 /* The steps until every item has finished so many passes, or all that it has. */
 static uint64_t steps_to(const struct trial *trial, uint64_t passes) {
     const uint64_t *started = trial->lent.counts, *finished = started + MAX_ITEMS;

@@ -10,7 +10,7 @@
 /* `task` is an item's task, or the writer whose word it carries. `ready` has the items that were
    ready when the last list of them was asked for, and `lists` counts these lists. `total` is how
    many steps there are from the opening to the end. `differ` counts the words that are not the
-   unrolled loop's. */
+   unrolled loop's, and steps and lists that were refused and should not be. */
 struct play {
     uint64_t words[TASKITER_PLAN_WORDS];
     TASKITER_COUNT_TYPE counts[TASKITER_COUNTS];

@@ -120,6 +120,10 @@ uint64_t with_cut_count(struct trial *trial, uint64_t count) {
     return count > UINT32_MAX && makes_change(trial, CHANGED_COUNT) ? (uint32_t)count : count;
 }
 
+uint64_t own_of(const struct trial *trial, int item) {
+    return own_passes(&trial->shape.plan, &trial->shape.graph.item[item]);
+}
+
 void put_number(struct trial *trial, int item, uint64_t number) {
     int at = FIRST_UNMET + item;
     trial->lent.counts[at] = trial->expected.counts[at] = number;

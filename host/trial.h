@@ -101,13 +101,16 @@ uint64_t with_changed_mean(struct trial *trial, uint64_t mean);
 /* A count, as it is or, in a control run, without its upper half, which is not 0. */
 uint64_t with_cut_count(struct trial *trial, uint64_t count);
 
+/* The passes that an item has. */
+uint64_t own_of(const struct trial *trial, int item);
+
 /* Puts the number of unmet waits of one item into both memories, or those of all items, counted
    over the edges by the finished passes that stand there. */
 void put_number(struct trial *trial, int item, uint64_t number);
 void put_fresh_numbers(struct trial *trial);
 
 /* Compares the lent numbers of unmet waits with a count over the edges, which does not go by the
-   model: the same after every call from an opening on. */
+   model. They are the same after every call from an opening on. */
 void try_fresh(struct trial *trial);
 
 /* Counts the answer of a call. */

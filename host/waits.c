@@ -4,14 +4,12 @@
 #include <string.h>
 
 #include "groups.h"
+#include "recount.h"
 
-/* A play with fresh numbers has at most so many steps, one from numbers put by hand so few. All
-   starts are tried before each step where the plan has few items, and once in a while where not. */
+/* A play with fresh numbers has at most MOST_STEPS steps, one from numbers put by hand FEW_STEPS.
+   Before each step all starts are tried where the plan has at most FEW_ITEMS items; else before
+   some, by chance. */
 enum { MOST_STEPS = 240, FEW_STEPS = 48, FEW_ITEMS = 16, TRIED_STARTS = 2 };
-
-static uint64_t own_of(const struct trial *trial, int item) {
-    return own_passes(&trial->shape.plan, &trial->shape.graph.item[item]);
-}
 
 /* Tries a start of every item on a copy of the lent memory: those that are accepted are the ones
    listed, in their order. */
@@ -152,7 +150,7 @@ static void try_number(struct trial *trial, struct rng *rng) {
                            try_call(trial, FINISH_CALL, least, 0).refusal != 12 ||
                            try_call(trial, RESULT_CALL, least, 0).refusal != 12 ||
                            try_call(trial, OPEN_CALL, least, 0).refusal != 0))
-        differ(trial, "item %d has the number %" PRIu64 ", and 12 is not given, or to an opening",
+        differ(trial, "item %d has the number %" PRIu64 ": 12 is not given, or is given to an opening",
                item, number);
     trial->lent = trial->expected = kept;
 }
@@ -196,6 +194,17 @@ static void try_short_ready(struct trial *trial) {
         differ(trial, "ready items are answered with a slice that is too short");
 }
 
+/* recount_waits puts the numbers that stand there, which are fresh, in place of any others, and
+   changes nothing else. */
+static void try_recount(struct trial *trial) {
+    static struct memory copy;
+    copy = trial->lent;
+    memset(copy.counts + FIRST_UNMET, 0x5a, (size_t)trial->shape.graph.items * sizeof *copy.counts);
+    recount_waits(copy.plan, copy.counts);
+    if (memcmp(&copy, &trial->lent, sizeof copy) != 0)
+        differ(trial, "the numbers of a state, counted over the edges, are others");
+}
+
 /* From an opening; in states about the last pass, which wrapped transfers do not have; with numbers
    put by hand; in a complete loop; and with no pass. */
 void waits_group(struct trial *trial, struct rng *rng) {
@@ -205,6 +214,7 @@ void waits_group(struct trial *trial, struct rng *rng) {
     play_fresh(trial, rng);
     try_short_ready(trial);
     put_counts_near(trial, rng, trial->shape.plan.passes, 2);
+    try_recount(trial);
     for (int k = 0; k < 12; k++)
         try_number(trial, rng);
     play_fresh(trial, rng);

@@ -207,12 +207,13 @@ taskiter_answer taskiter_result(const uint64_t *plan, size_t plan_length,
                                 const TASKITER_COUNT_TYPE *counts, size_t counts_length,
                                 const uint64_t *values, size_t values_length, uint64_t region);
 
-/* The items whose start is accepted now. Their numbers stand at the front of a slice of at least
+/* The items whose start is accepted now, as taskiter_start takes them: counted from 0, and not by
+   the numbers n of taskiter_items. They stand at the front of a slice of at least
    TASKITER_MAX_ITEMS, rising, and the answer is how many they are; what lies behind them is left as
    it is. A start takes its own item off the list and leaves the others; a finish can only add to
    it. From an opening on, where the list is empty an item runs or the loop is complete. Refused for
-   11, where a slice is too short, that for the items too, or for 12, as a start is; then the number
-   is 0 and nothing is changed. */
+   11 where a slice is too short, the one for the items included, and for 12 as a start is. Then the
+   number is 0 and nothing is changed. */
 taskiter_number taskiter_ready(const uint64_t *plan, size_t plan_length,
                                const TASKITER_COUNT_TYPE *counts, size_t counts_length,
                                const uint64_t *values, size_t values_length, uint16_t *items,

@@ -1,5 +1,5 @@
--- Laws of the counts of started and finished passes. Those that end in -none, -more and -done are a
--- loop's: before its first turn, over a turn, and after its last.
+-- Laws of the counts: started and finished passes, and numbers of unmet waits. Those that end in
+-- -none, -more and -done are a loop's: before its first turn, over a turn, and after its last.
 use Prim.Native.Nat.{ℕ, _+_, _-_, _^_, _≤_, _<_}
 use mathlib.Core.Path.{_≡_, refl, sym, _∙_, ap, ap₂}
 use mathlib.Core.Bool.{Bool, true, false, cond, _&&_, _||_}

@@ -61,7 +61,7 @@ fn list_task(plan: &[u64], i: usize, first: usize, write: bool, row: &mut [u16])
     n
 }
 
-// So for the slot and the copy of a send or a receive.
+// As `list_task`, for the slot and the copy of a send or a receive.
 fn list_moved(receives: bool, write: bool, slot: usize, copy: usize, row: &mut [u16]) -> usize
     requires { ⌜ (slot < 65536) × (copy < 65536) × (maxAccesses ≤ length (now row)) ⌝ }
     ensures { λ r. ⌜ (take r (now (row .exit)) ≡ placesMoved receives write slot copy) × (r ≤ maxAccesses) ⌝ }
@@ -75,7 +75,7 @@ fn list_moved(receives: bool, write: bool, slot: usize, copy: usize, row: &mut [
     1
 }
 
-// So for the places of item a.
+// As `list_task`, for the places of item a.
 fn list_item(plan: &[u64], code: u64, a: usize, write: bool, row: &mut [u16]) -> usize
     requires { ⌜ Found (now plan) a code × (maxAccesses ≤ length (now row)) ⌝ }
     ensures { λ r. ⌜ (take r (now (row .exit)) ≡ placesOf (bodyOf (now (plan .entry))) write a) × (r ≤ maxAccesses) ⌝ }

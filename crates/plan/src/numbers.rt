@@ -77,7 +77,7 @@ pub fn one_if(holds: bool) -> u64
     if holds { 1 } else { 0 }
 }
 
-// The number where it holds, else 0.
+// The number where `holds` is true, else 0.
 pub fn number_if(holds: bool, number: u64) -> u64
     ensures { λ r. ⌜ r ≡ cond holds number 0 ⌝ }
 {

@@ -6,7 +6,7 @@ ghost use Rattle.plan.specs.Code.{codeFewer};
 ghost use Rattle.plan.specs.Counts.{surplusOf};
 use crate::numbers::as_index;
 
-// A number of passes of an item.
+// A count of an item: of passes, or of unmet waits.
 pub type Count = u64;
 
 // The least number with its top bit set. Every count in form lies below it. Words joined by `|` lie

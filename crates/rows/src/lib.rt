@@ -32,7 +32,7 @@ pub(crate) fn target(edges: &[u32], e: usize, m: usize) -> usize
     index_32(edges[3 * e + 1])
 }
 
-// Finds the rows: the word behind that of an item gets one more than the last edge from it.
+// Finds the rows: word a + 1 gets the end of item a's row, one more than its last edge.
 pub fn find_rows(edges: &[u32], m: usize, rows: &mut [u16])
     requires { ⌜ Ends (now edges) m × (now rows ≡ replicate rowWords 0) ⌝ }
     ensures { λ _. ⌜ now (rows .exit) ≡ tabulate rowWords (rowEnd (now (edges .entry)) m) ⌝ }

@@ -33,7 +33,7 @@ fn lower_number(counts: &mut [Count], words: &mut [u64], b: usize)
     }
 }
 
-// So for each item that the edges from lo to below hi lead to.
+// As `lower_number`, for each item that the edges from lo to below hi lead to.
 pub fn lower_row(
     edges: &[u32],
     m: usize,

@@ -69,8 +69,9 @@ fn pass_word(
     write_by(a, writes, values, word);
 }
 
-// Item a, which has so many passes, starts and finishes. With the items in step, its finish takes
-// one off the number of each item that it has an edge to, and it waits for all its sources then.
+// Item a, which has so many passes, starts and finishes. The items with an edge to or from it stand
+// where the items in order leave them (`InStep`). So its finish takes one off the number of each
+// item that it has an edge to, and it then waits for all its sources.
 fn take_turn(
     plan: &[u64],
     code: u64,

@@ -1,5 +1,6 @@
--- What an accepted call has left: an opening the plan's part of the state, a start or finish the word, one count more and the values that it
--- changes, a result its word.
+-- What an accepted call has left: an opening the plan's part of the state, a start or finish the
+-- word, one count more and the values that it changes, a finish the numbers of unmet waits besides, a
+-- result its word.
 use Prim.Native.Nat.{ℕ, suc, _+_, _-_, _≤_, _<_}
 use mathlib.Core.Path.{_≡_, refl, sym, _∙_, ap, subst}
 use mathlib.Core.Bool.{Bool, true, false, cond, _||_}

@@ -37,8 +37,8 @@ countOk passes s a =
 abbrev pub isComplete : Body → State → Bool
 isComplete B s = allBelow (itemCount B) (λ a. eqb (s .finished a) (itemPasses B a))
 
--- 14, 15 and 16 of a start of item a with this number of unmet waits, 17 of a finish, 18 of a result;
--- 0 where none holds. Of the waits a start looks at the item's own number alone
+-- 14, 15 and 16 of a start of item a with this number of unmet waits, 17 of a finish, 18 of a
+-- result; 0 where none holds. Of the waits a start looks at the item's own number alone
 abbrev pub startTests : Body → State → ℕ → ℕ → ℕ
 startTests B s number a =
     cond (ltb (s .finished a) (itemPasses B a))
@@ -100,8 +100,8 @@ module _ (plan counts values : List ℕ) where
   abbrev pub unless : ℕ → Left → Left
   unless n accepted = cond (eqb n 0) accepted (refused n)
 
-  -- every copy holds its starting value; passes, slots and held words are 0; unmet waits are counted;
-  -- what the plan does not use stays
+  -- every copy holds its starting value; passes, slots and held words are 0; unmet waits are
+  -- counted; what the plan does not use stays
   abbrev pub opened : Left
   opened =
       record {
@@ -145,7 +145,8 @@ module _ (plan counts values : List ℕ) where
       set (finishedNumbers (system (planBody plan)) (edgeTest (planBody plan)) firstUnmet (doneBy counts) a counts)
       (firstFinished + a) (suc (doneBy counts a))
 
-  -- the word that item a holds is answered, and goes to the places that a writes; the finish is counted
+  -- the word that item a holds is answered, and goes to the places that a writes; the counts are
+  -- those after the finish
   abbrev pub finished : ℕ → Left
   finished a =
       record {

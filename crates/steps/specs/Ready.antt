@@ -1,4 +1,5 @@
--- The items whose start is accepted now (paper 02, card 7), and what `taskiter_ready` answers.
+-- The items whose start is accepted now, and what `taskiter_ready` answers, a call that no paper
+-- asks for.
 use Prim.Native.Nat.{ℕ}
 use mathlib.Core.Path.{_≡_}
 use mathlib.Core.Bool.{true, _&&_}
@@ -12,13 +13,13 @@ use Rattle.graph.specs.Answers.{maxItems, refusalOf, formedPlan, planBody}
 use Rattle.steps.specs.Answers.{longSlices, formedCounts, formedNumbers}
 use Rattle.steps.specs.Calls.{start, lent, isAccepted}
 
--- the numbers of these items, rising
+-- the items whose start is accepted, rising
 unfoldable pub readyItems : List ℕ → List ℕ → List ℕ → List ℕ
 readyItems plan counts values =
     gather (itemCount (planBody plan)) (λ a. isAccepted plan (lent counts values) (start a)) (λ a. a)
 
 -- they stand in the lent slice `items`, and the answer is how many they are; what lies behind them
--- stays. 11 and 12 as with a start
+-- stays. 11 and 12 as with a start; 11 too where `items` is short
 pub record ReadyAnswer (plan counts values items : List ℕ) (r : Number) (items′ : List ℕ) : Type 0 where
   pub refusal : r .refusal ≡ refusalOf (longSlices plan counts values && leb maxItems (length items))
       (formedPlan plan && (formedCounts plan counts values && formedNumbers plan counts values)) true

@@ -1,6 +1,6 @@
 -- The state that a host lends (paper 01, "Steps"; docs/LAYOUT.md), as a state of the machine of the crate unroll.
---   counts: a the started passes of item a, firstFinished + a its finished passes, firstUnmet + a how
---     many of its waits are unmet.
+--   counts: a the started passes of item a, firstFinished + a its finished passes, firstUnmet + a
+--     its number of unmet waits.
 --   values: the places by their numbers, which are the copies and from firstSlot on the slots; firstHeld + a the word that item a holds.
 use Prim.Native.Nat.{ℕ, _+_}
 use mathlib.Core.List.{List}

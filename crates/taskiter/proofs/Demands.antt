@@ -34,8 +34,8 @@ use Rattle.steps.specs.Calls.{Call, Lent, lentBy, play}
 use Rattle.steps.proofs.Accepting.{long-slices, Clear, open-short, open-unchanged, open-accepted, start-clear}
 use Rattle.steps.proofs.Accepting.{start-turn, start-rule, finish-clear, finish-can, result-clear, result-complete, every-short, every-unchanged}
 use Rattle.steps.proofs.Made.{start-word, start-counts, start-values}
-use Rattle.taskiter.specs.Demands.{FitTold, TextRead, PlanReady, Steps, Demand1, Demand2, stepsOf, AtEnd, InAnyOrder, Opened, Demand3, Demands}
-use Rattle.taskiter.proofs.Freshness.{all-fresh, stays-fresh}
+use Rattle.taskiter.specs.Demands.{FitTold, TextRead, PlanReady, Steps, Demand1, Demand2, stepsOf, AtEnd, InAnyOrder, ReadyAfter, Opened, Demand3, Demands}
+use Rattle.taskiter.proofs.Freshness.{one-count, all-fresh, stays-fresh}
 use Rattle.taskiter.proofs.AnyOrder.{in-any-order}
 use Rattle.taskiter.proofs.Unread.{unread}
 use Rattle.taskiter.proofs.Means.{mean-words}
@@ -43,7 +43,7 @@ use Rattle.taskiter.proofs.Kept.{kept, counts-fit}
 use Rattle.taskiter.proofs.Readiness.{ready-long, ready-form, ready-clear, counts-ready, form-ready, clear-ready}
 use Rattle.taskiter.proofs.Writing.{text-given}
 use Rattle.taskiter.proofs.Giving.{items-given, edges-given, total-given}
-use Rattle.taskiter.proofs.Listing.{ready-given}
+use Rattle.taskiter.proofs.Listing.{ready-given, ready-after}
 use Rattle.taskiter.proofs.Replying.{call-word, word-call, in-words, play-refused, play-given}
 use Rattle.taskiter.proofs.Numbering.{numbers, open-made, finish-made, result-made, room, held-apart, own-rank}
 
@@ -132,6 +132,7 @@ module _ (plan counts values : List ℕ) (words : (i : ℕ) → getD plan i 0 �
           λ R. open-accepted plan counts values .1 (ready-long plan counts values R, ready-form plan counts values R),
         );
         one-edge = λ R a b d e p q. edge-distance-is (system (planBody plan)) a b d p ∙ sym (edge-distance-is (system (planBody plan)) a b e q);
+        one-count = λ R. one-count plan (ready-form plan counts values R) counts values;
         starts-stored = λ a. (
           λ h.
               let k = start-clear plan counts values a h in
@@ -164,7 +165,7 @@ module _ (plan counts values : List ℕ) (words : (i : ℕ) → getD plan i 0 �
       }
 
 demand-2 : Demand2
-demand-2 = record { items = items-given; edges = edges-given; total = total-given; steps = steps; ready = ready-given; unread = unread }
+demand-2 = record { items = items-given; edges = edges-given; total = total-given; steps = steps; ready = λ plan counts values items r items′ words A. ready-given plan counts values items r items′ A words; unread = unread }
 
 -- demand 3
 
@@ -183,6 +184,9 @@ opened-order text w behind counts values e long-counts long-values =
       total = λ r A. total-ends size (open-accepted (w ++ behind) counts values .0 (o .0)) r A (o .1);
       stays-ready = λ l. let s = play (w ++ behind) (lentBy (openOf (w ++ behind) counts values)) l in
           counts-ready (w ++ behind) (s .counts) (s .values) (read-ready (s .counts) (s .values) size (o .2 l)) (o .2 l .formed-counts) (o .2 l .formed-numbers);
+      ready = λ l items r items′ room A.
+          subst (λ (v : List ℕ). ReadyAfter (bodyOf v) (w ++ behind) opened l r items′) (take-at w behind planWords size)
+          (ready-after (w ++ behind) counts values (o .0) l items r items′ room A);
       played = λ before calls answers r counts′ values′ answers′ room P.
           play-given (bodyOf w) (w ++ behind) (lentBy (openOf (w ++ behind) counts values)) (o .1) before calls answers (o .2 before .long) room r counts′ values′ answers′ P;
     }

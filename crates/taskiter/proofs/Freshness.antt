@@ -13,7 +13,7 @@ use Rattle.body.specs.Places.{system}
 use Rattle.edges.specs.Tests.{distance, edgeTest}
 use Rattle.edges.proofs.Decided.{edge-distance-is}
 use Rattle.waits.specs.Waits.{Tells, isUnmet, freshCount, meets}
-use Rattle.waits.proofs.Unmet.{meets-parts, meets-of, count-left, count-done, unmet-exactly}
+use Rattle.waits.proofs.Unmet.{meets-parts, meets-of, count-left, count-done, count-most, unmet-exactly}
 use Rattle.waits.proofs.Fresh.{counted}
 use Rattle.waits.proofs.Bodies.{tells}
 use Rattle.plan.specs.Sizes.{maxItems}
@@ -57,6 +57,14 @@ module _ (plan : List ℕ) (formed : formedPlan plan ≡ true) (counts values : 
             (let m : itemPasses (planBody plan) a ≤ doneBy counts a = omega arith in
             F .done m ∙ sym (count-done (system (planBody plan)) (edgeTest (planBody plan)) (doneBy counts) a m))
       ]
+
+  pub one-count : (a : ℕ) → a < itemCount (planBody plan) →
+      (n : ℕ) × (n < itemCount (planBody plan)) × ((m : ℕ) → FreshCount (planBody plan) (stateOf counts values) a m ↔ (m ≡ n))
+  one-count a la = (
+    freshCount (system (planBody plan)) (edgeTest (planBody plan)) (doneBy counts) a,
+    count-most (system (planBody plan)) (edgeTest (planBody plan)) (doneBy counts) a la,
+    λ m. (count-fresh a m la, λ e. subst (FreshCount (planBody plan) (stateOf counts values) a) (sym e) (fresh-count a la)),
+  )
 
   pub fresh-all : FreshNumbers (planBody plan) counts → AllFresh (planBody plan) counts values
   fresh-all f a la = subst (FreshCount (planBody plan) (stateOf counts values) a) (sym (f a la)) (fresh-count a la)

@@ -1,4 +1,5 @@
--- What a lower limit on passes gave is given by a higher one, and counts stay within the passes.
+-- What a lower limit on passes gave is given by a higher one, and counts stay within the passes and
+-- the number of items.
 use Prim.Native.Nat.{ℕ, suc, _+_, _-_, _≤_}
 use mathlib.Core.Path.{_≡_, refl, sym, _∙_, ap, subst}
 use mathlib.Core.Bool.{Bool, true, false, cond}

@@ -1,5 +1,5 @@
--- Demand 2: the numbers of refused calls, what an accepted opening, finish or result leaves, and the
--- room that the state has.
+-- Demand 2: the numbers of refused calls, what an accepted opening, finish or result leaves, and
+-- the room that the state has.
 use Prim.Native.Nat.{ℕ, _+_, _-_, _*_, _≤_, _<_}
 use mathlib.Core.Path.{_≡_, refl, sym, _∙_, ap, subst}
 use mathlib.Core.Bool.{Bool, true, false, cond, _||_}

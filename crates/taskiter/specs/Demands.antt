@@ -110,8 +110,8 @@ pub record PlanReady (plan counts values : List ℕ) : Type 0 where
   pub long-values : valueWords ≤ length values
   pub read : FromText plan
 
--- besides, the counts of every item are in form, and its number of unmet waits is at most the number
--- of items: neither 11 nor 12 is given
+-- besides, the counts of every item are in form, and its number of unmet waits is at most the
+-- number of items: neither 11 nor 12 is given
 pub record Ready (plan counts values : List ℕ) : Type 0 where
   pub plan-ready : PlanReady plan counts values
   pub counts-formed : (a : ℕ) → a < itemCount (planBody plan) → CountInForm (itemPasses (planBody plan) a) (stateOf counts values) a
@@ -129,8 +129,8 @@ pub record FreshCount (B : Body) (s : State) (a n : ℕ) : Type 0 where
 abbrev pub AllFresh : Body → List ℕ → List ℕ → Type 0
 AllFresh B counts values = (a : ℕ) → a < itemCount B → FreshCount B (stateOf counts values) a (unmetBy counts a)
 
--- item a is in turn by the number that is stored: it has a pass left, does not run, and has no unmet
--- wait
+-- item a is in turn by the number that is stored: it has a pass left, does not run, and its number
+-- is 0
 pub record InTurn (B : Body) (counts values : List ℕ) (a : ℕ) : Type 0 where
   pub in-range : a < itemCount B
   pub left : stateOf counts values .finished a < itemPasses B a
@@ -176,8 +176,8 @@ pub record MeetsWait (B : Body) (s : State) (a b : ℕ) : Type 0 where
   pub left : s .finished b < itemPasses B b
 
 -- an accepted finish of item a writes the word held to the places that a writes, and answers it; it
--- counts the finish, takes one off the number of each other item whose wait it meets, a 0 staying 0,
--- counts its own afresh, and changes nothing else
+-- counts the finish, takes one off the number of each other item whose wait it meets, a 0 staying
+-- 0, counts its own afresh, and changes nothing else
 pub record FinishMade (B : Body) (counts values : List ℕ) (a : ℕ) (r : Left) : Type 0 where
   pub word : r .word ≡ getD values (firstHeld + a) 0
   pub count-size : length (r .counts) ≡ length counts
@@ -247,9 +247,13 @@ pub record Steps (plan counts values : List ℕ) : Type 0 where
   pub held-apart : PlanReady plan counts values → (a b : ℕ) → a < itemCount (planBody plan) → mem (firstHeld + b) (system (planBody plan) .writes a) ≡ false
   pub opens : (openOf plan counts values .refusal ≡ 0) ↔ PlanReady plan counts values
   pub one-edge : PlanReady plan counts values → (a b d e : ℕ) → Edge (system (planBody plan)) a b d → Edge (system (planBody plan)) a b e → d ≡ e
-  -- a start is accepted exactly when the item is in turn by its stored number: where the numbers are
-  -- fresh counts, as after every list of calls from an opening (demand 3), exactly when it is in turn
-  -- and everything it must wait for has finished or is not made; a finish exactly when its item runs
+  -- each item has one fresh count, and it is below the number of items
+  pub one-count : PlanReady plan counts values → (a : ℕ) → a < itemCount (planBody plan) →
+      (n : ℕ) × (n < itemCount (planBody plan)) × ((m : ℕ) → FreshCount (planBody plan) (stateOf counts values) a m ↔ (m ≡ n))
+  -- a start is accepted exactly when the item is in turn by its stored number: where the numbers
+  -- are fresh counts, as after every list of calls from an opening (demand 3), exactly when it is
+  -- in turn and everything it must wait for has finished or is not made; a finish exactly when its
+  -- item runs
   pub starts-stored : (a : ℕ) → (startOf plan counts values a .refusal ≡ 0) ↔ (Ready plan counts values × InTurn (planBody plan) counts values a)
   pub starts : AllFresh (planBody plan) counts values → (a : ℕ) →
       (startOf plan counts values a .refusal ≡ 0) ↔ (Ready plan counts values × StartRule (system (planBody plan)) (stateOf counts values) a)
@@ -265,8 +269,9 @@ pub record Steps (plan counts values : List ℕ) : Type 0 where
   pub finished : (a : ℕ) → finishOf plan counts values a .refusal ≡ 0 → FinishMade (planBody plan) counts values a (finishOf plan counts values a)
   pub shown : (g : ℕ) → resultOf plan counts values g .refusal ≡ 0 → ResultMade (planBody plan) counts values g (resultOf plan counts values g)
 
--- what C gets from `taskiter_ready`: each refusal exactly when its condition holds, and then nothing
--- is changed; accepted, the items whose start is accepted, rising, and how many; what lies behind stays
+-- what C gets from `taskiter_ready`: each refusal exactly when its condition holds, and then
+-- nothing is changed; accepted, the items whose start is accepted, rising, and how many; what lies
+-- behind stays
 pub record ReadyGiven (plan counts values items : List ℕ) (r : Number) (items′ : List ℕ) : Type 0 where
   pub refusal-11 : (r .refusal ≡ 11) ↔ (Short plan counts values ⊎ (length items < maxItems))
   pub refusal-12 : (r .refusal ≡ 12) ↔ (((Short plan counts values ⊎ (length items < maxItems)) → ⊥) × (Ready plan counts values → ⊥))
@@ -289,7 +294,8 @@ pub record Demand2 : Type 0 where
   pub steps : (plan counts values : List ℕ) → ((i : ℕ) → getD plan i 0 ≤ maxWord) → Steps plan counts values
   pub ready : (plan counts values items : List ℕ) (r : Number) (items′ : List ℕ) → ((i : ℕ) → getD plan i 0 ≤ maxWord) →
       ReadyAnswer plan counts values items r items′ → ReadyGiven plan counts values items r items′
-  -- what lies behind the sizes, and state that the plan does not use, is not read
+  -- what lies behind the sizes, and state that the plan does not use, does not show in what a step
+  -- or result answers
   pub unread : (plan plan′ : List ℕ) (s t : Lent) (c : Call) → take planWords plan ≡ take planWords plan′ →
       (Short plan (s .counts) (s .values) → ⊥) → (Short plan′ (t .counts) (t .values) → ⊥) → SameUsed (planBody plan) s t →
       (call plan s c .refusal ≡ call plan′ t c .refusal) × (call plan s c .word ≡ call plan′ t c .word)
@@ -346,6 +352,13 @@ module _ (B : Body) (plan : List ℕ) (s : Lent) where
     pub accepts-results : (g : ℕ) → g < B .regions → AtEnd l ↔ (callAfter l (result g) .refusal ≡ 0)
     pub final : (g : ℕ) → callAfter l (result g) .refusal ≡ 0 → callAfter l (result g) .word ≡ loopFinal B g
 
+  -- what C gets from `taskiter_ready` after the list l, where its slice has room: the items whose
+  -- waits are met, by the rule; where there are none and no item runs, the end is reached
+  pub record ReadyAfter (l : List Call) (r : Number) (items′ : List ℕ) : Type 0 where
+    pub accepted : r .refusal ≡ 0
+    pub exactly : (a : ℕ) → In a (take (r .number) items′) ↔ StartRule (system B) (stateOf (play plan s l .counts) (play plan s l .values)) a
+    pub none : r .number ≡ 0 → ((a : ℕ) → a < itemCount B → startsOf a l ≡ finishesOf a l) → AtEnd l
+
   -- what C gets from `taskiter_play` for the words `calls`, after the calls `before`
   pub record PlayGiven (before : List Call) (calls answers : List ℕ) (r : ℕ) (counts′ values′ answers′ : List ℕ) : Type 0 where
     pub accepted : r ≡ 0
@@ -380,6 +393,10 @@ pub record Opened (text w plan counts values : List ℕ) : Type 0 where
       let s = lentBy (openOf plan counts values) in (r .refusal ≡ 0) × ((l : List Call) → AtEnd (bodyOf w) plan s l ↔ (stepsOf (bodyOf w) plan s l ≡ r .number))
   -- after every list plan and state are such that neither 11 nor 12 is given
   pub stays-ready : (l : List Call) → let s = play plan (lentBy (openOf plan counts values)) l in Ready plan (s .counts) (s .values)
+  -- what C gets from `taskiter_ready`, whose contract is `ReadyAnswer`, after every list
+  pub ready : (l : List Call) (items : List ℕ) (r : Number) (items′ : List ℕ) → maxItems ≤ length items →
+      let s = lentBy (openOf plan counts values) in ReadyAnswer plan (play plan s l .counts) (play plan s l .values) items r items′ →
+      ReadyAfter (bodyOf w) plan s l r items′
   -- what C gets from `taskiter_play`, whose contract is `Played`, on the state that the opening and any calls since have left, with answers for
   -- two words a call
   pub played : (before : List Call) (calls answers : List ℕ) (r : ℕ) (counts′ values′ answers′ : List ℕ) → 2 * length calls ≤ length answers →
@@ -401,6 +418,6 @@ pub record Demands : Type 0 where
   pub demand-1 : Demand1
   pub demand-2 : Demand2
   pub demand-3 : Demand3
-  -- what was read and answered with a lower limit on passes, for loops within it, is so now
+  -- with a lower limit on passes loops within it are read, and calls on them answered, as they are
   pub kept : (most : ℕ) → most ≤ maxPasses → Kept most
   pub counts-fit : CountsFit

@@ -1,8 +1,8 @@
--- What a raised limit on passes leaves as it was (paper 02, card 5). Before the card the runtime was
--- these definitions with 1,000,000 in place of `maxPasses`, and counted no waits (card 7). Counts are
--- numbers here, whatever their width: a state whose counts are copied over, number by number, is the
--- same state. One from before card 7 holds no numbers of unmet waits, and is left out unless it gets
--- fresh ones: with them a start is accepted as before (Demands, Steps .starts).
+-- What a raised limit on passes leaves as it was (paper 02, card 5). Before the card the runtime
+-- was these definitions with 1,000,000 in place of `maxPasses`, and counted no waits (card 7).
+-- Counts are numbers here, whatever their width: a state whose counts are copied over, number by
+-- number, is the same state. One from before card 7 holds no numbers of unmet waits, and is left
+-- out unless it gets fresh ones: with them a start is accepted as before (Demands, Steps .starts).
 use Prim.Native.Nat.{ℕ, _≤_}
 use mathlib.Core.Path.{_≡_}
 use mathlib.Core.Bool.{Bool, _&&_}
@@ -35,7 +35,8 @@ pub record Kept (most : ℕ) : Type 0 where
   pub texts : TextsKept most
   -- with `most` exactly those plans are in form that are so with `maxPasses` and have at most `most` passes
   pub form : (plan : List ℕ) → formedWithin plan most ≡ (leb (planBody plan .passes) most && formedPlan plan)
-  -- so the test gives the same for a plan within `most`; items, edges, total and writing go by the limit through it alone
+  -- so the test gives the same for a plan within `most`; items, edges, ready, total and writing go
+  -- by the limit through it alone
   pub same-form : (plan : List ℕ) → planBody plan .passes ≤ most → formedWithin plan most ≡ formedPlan plan
   -- an opening and each list of calls, on every state, answer and leave the same
   pub opens : (plan counts values : List ℕ) → planBody plan .passes ≤ most → openBy plan counts values (formedWithin plan most) ≡ openOf plan counts values
@@ -43,9 +44,9 @@ pub record Kept (most : ℕ) : Type 0 where
   pub plays : (plan : List ℕ) (s : Lent) (l : List Call) → planBody plan .passes ≤ most → playBy plan (formedWithin plan most) s l ≡ play plan s l
   pub answers : (plan : List ℕ) (s : Lent) (l : List Call) → planBody plan .passes ≤ most → repliesBy plan (formedWithin plan most) s l ≡ replies plan s l
 
--- where the plan has at most `top` passes and items, and no count is above `top`, the unused ones too,
--- none is after an opening and none after a list of calls: with `top` = 2^32 - 1, counts of 32 bits
--- stay so
+-- where the plan has at most `top` passes and items, and no count is above `top`, the unused ones
+-- too, none is after an opening and none after a list of calls: with `top` = 2^32 - 1, counts of 32
+-- bits stay so
 abbrev pub CountsFit : Type 0
 CountsFit = (plan : List ℕ) (top : ℕ) → planBody plan .passes ≤ top → itemCount (planBody plan) ≤ top → (s : Lent) → ((i : ℕ) → getD (s .counts) i 0 ≤ top) →
     ((i : ℕ) → getD (openOf plan (s .counts) (s .values) .counts) i 0 ≤ top) × ((l : List Call) (i : ℕ) → getD (play plan s l .counts) i 0 ≤ top)

@@ -173,7 +173,8 @@ pub extern "C" fn taskiter_start(
 }
 
 // Finishes the pass of an item that runs: the held word goes to the places that the item writes,
-// and is answered.
+// and is answered. The waits that the finish meets are taken off the numbers, and its own are
+// counted.
 #[no_mangle]
 pub extern "C" fn taskiter_finish(
     plan: &[u64],
@@ -221,8 +222,8 @@ pub extern "C" fn taskiter_result(
     )
 }
 
-// The items whose start is accepted now: their numbers, rising, in the lent slice, and how many they
-// are.
+// The items whose start is accepted now: their numbers, rising, in the lent slice, and how many
+// they are.
 #[no_mangle]
 pub extern "C" fn taskiter_ready(
     plan: &[u64],

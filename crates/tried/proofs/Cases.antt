@@ -19,7 +19,7 @@ use Rattle.waits.specs.Waits.{isUnmet, freshCount}
 use Rattle.plan.specs.Layout.{bodyOf}
 use Rattle.plan.specs.Form.{wordsOk, wordsWithin}
 use Rattle.plan.proofs.Facts.{fits}
-use Rattle.tried.specs.Table.{exampleWords, readersWords, unmetAt}
+use Rattle.tried.specs.Table.{exampleWords, readersWords, aheadWords, unmetAt}
 
 -- A: the plan on two ranks that the paper gives
 two-ranks-ok : wordsOk (exampleWords 2) ≡ true
@@ -46,20 +46,24 @@ two-readers-list = refl
 pub two-readers-edges : AllEdges (bodyOf readersWords) ((0, 0, 1) ∷ (1, 1, 1) ∷ [])
 two-readers-edges = subst (AllEdges (bodyOf readersWords)) two-readers-list (all-edges (bodyOf readersWords) (fits readersWords two-readers-ok) (omega arith))
 
--- card 7: the unmet waits of the example's items
+-- card 7: the unmet waits of the example's items, and where a transfer is wrapped
 
-pub unmet-opened : unmetAt [] ≡ 0 ∷ 1 ∷ 1 ∷ 1 ∷ []
+pub unmet-opened : unmetAt (exampleWords 2) [] ≡ 0 ∷ 1 ∷ 1 ∷ 1 ∷ []
 unfolding itemList flatMap range gather transfersOf transferred wanted allBelow anyBelow countBelow source orElse lastBefore mem wrapped fewer itemAt touch touchOn written between crossed paired copyEdge edgeTest isUnmet freshCount
 unmet-opened = refl
 
-pub unmet-task-run : unmetAt (1 ∷ []) ≡ 1 ∷ 0 ∷ 1 ∷ 1 ∷ []
+pub unmet-task-run : unmetAt (exampleWords 2) (1 ∷ []) ≡ 1 ∷ 0 ∷ 1 ∷ 1 ∷ []
 unfolding itemList flatMap range gather transfersOf transferred wanted allBelow anyBelow countBelow source orElse lastBefore mem wrapped fewer itemAt touch touchOn written between crossed paired copyEdge edgeTest isUnmet freshCount
 unmet-task-run = refl
 
-pub unmet-send-run : unmetAt (1 ∷ 1 ∷ []) ≡ 0 ∷ 2 ∷ 0 ∷ 1 ∷ []
+pub unmet-send-run : unmetAt (exampleWords 2) (1 ∷ 1 ∷ []) ≡ 0 ∷ 2 ∷ 0 ∷ 1 ∷ []
 unfolding itemList flatMap range gather transfersOf transferred wanted allBelow anyBelow countBelow source orElse lastBefore mem wrapped fewer itemAt touch touchOn written between crossed paired copyEdge edgeTest isUnmet freshCount
 unmet-send-run = refl
 
-pub unmet-ended : unmetAt (2 ∷ 2 ∷ 2 ∷ 2 ∷ []) ≡ 0 ∷ 0 ∷ 0 ∷ 0 ∷ []
+pub unmet-ended : unmetAt (exampleWords 2) (2 ∷ 2 ∷ 2 ∷ 2 ∷ []) ≡ 0 ∷ 0 ∷ 0 ∷ 0 ∷ []
 unfolding itemList flatMap range gather transfersOf transferred wanted allBelow anyBelow countBelow source orElse lastBefore mem wrapped fewer itemAt touch touchOn written between crossed paired copyEdge edgeTest isUnmet freshCount
 unmet-ended = refl
+
+pub unmet-wrapped : unmetAt aheadWords (1 ∷ 1 ∷ 1 ∷ 0 ∷ []) ≡ 1 ∷ 0 ∷ 0 ∷ 0 ∷ []
+unfolding itemList flatMap range gather transfersOf transferred wanted allBelow anyBelow countBelow source orElse lastBefore mem wrapped fewer itemAt touch touchOn written between crossed paired copyEdge edgeTest isUnmet freshCount
+unmet-wrapped = refl

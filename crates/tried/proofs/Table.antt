@@ -3,10 +3,11 @@
 use Prim.Native.Nat.{ℕ, suc, _+_, _-_, _*_, _^_, _≤_, _<_}
 use mathlib.Core.Path.{_≡_, refl, sym, _∙_, ap, ap₂, subst}
 use mathlib.Core.Bool.{Bool, cond}
-use mathlib.Core.Logic.{⊎-elim}
-use mathlib.Core.List.{List, [], _∷_, _++_}
+use mathlib.Core.Logic.{inl, ⊎-elim}
+use mathlib.Core.List.{List, [], _∷_, _++_, map}
+use native.Mathlib.Decide.{ℕ-discrete}
 use native.Mathlib.Omega.{arith}
-use lib.ListN.{length, getD, set, take}
+use lib.ListN.{length, getD, set, take, length-set}
 use lib.Seq.{take-at, getD-set-same, getD-set-other}
 use borrow.Author.Tests.{le-ltb}
 use Rattle.unroll.specs.Edges.{Edge}
@@ -16,19 +17,25 @@ use Rattle.body.specs.TwoRanks.{tenEdges}
 use Rattle.body.specs.Items.{writer, itemCount, itemAt, itemPasses}
 use Rattle.body.specs.Places.{system}
 use Rattle.body.specs.Loop.{loopWord, loopFinal}
+use Rattle.edges.specs.Tests.{edgeTest}
 use Rattle.edges.proofs.Decided.{edge-distance-is}
+use Rattle.waits.specs.Waits.{freshCount}
+use Rattle.waits.proofs.Unmet.{count-agree}
 use Rattle.finite.proofs.Members.{at-in}
 use Rattle.plan.specs.Layout.{planWords, bodyOf}
 use Rattle.reading.specs.Reading.{readOf, accepted as readTo}
 use Rattle.kernels.proofs.Cases.{mean-widest, mean-rounded, mean-of-3, mean-of-6, mean-of-10, sum-wraps, difference-wraps}
 use Rattle.graph.specs.Answers.{planBody}
-use Rattle.tried.proofs.Cases.{two-ranks-edges, two-readers-edges, unmet-opened, unmet-task-run, unmet-send-run, unmet-ended}
-use Rattle.steps.specs.State.{stateOf, firstFinished}
+use Rattle.tried.proofs.Cases.{two-ranks-edges, two-readers-edges, unmet-opened, unmet-task-run, unmet-send-run, unmet-ended, unmet-wrapped}
+use Rattle.steps.specs.State.{stateOf, firstFinished, firstUnmet, doneBy, unmetBy}
 use Rattle.steps.specs.Answers.{openOf}
 use Rattle.steps.specs.Calls.{Call, start, finish, result, isStep, Lent, lentBy, call, play, accepted}
-use Rattle.taskiter.specs.Demands.{AllFresh, Ready, Opened, OpenMade, Steps, startsOf, AtEnd, InAnyOrder, Demands}
+use Rattle.steps.proofs.Refusals.{not-short}
+use Rattle.taskiter.specs.Demands.{AllFresh, PlanReady, Ready, Opened, OpenMade, Steps, startsOf, AtEnd, InAnyOrder, Demands}
+use Rattle.taskiter.proofs.Readiness.{read-formed, ready-long}
+use Rattle.taskiter.proofs.Freshness.{all-fresh}
 use Rattle.taskiter.proofs.Demands.{demands}
-use Rattle.tried.specs.Table.{exampleOf, example, exampleWords, noPass, Fresh, Accepts, after, Table}
+use Rattle.tried.specs.Table.{exampleOf, example, exampleWords, noPass, Fresh, Accepts, after, stored, Table}
 use Rattle.tried.proofs.Read.{example-read, no-pass-read, more-passes-read, more-passes-before, most-passes-read, too-many-passes, readers-read, unordered-read, ahead-read, example-written, second-begin, named-twice}
 use Rattle.tried.proofs.Starts.{nth-start}
 use Rattle.tried.proofs.Printed.{printed, ahead-printed}
@@ -181,6 +188,88 @@ module _ (D : Demands) where
               (ready 2 example example-read plan s F (start 0 ∷ []), omega (arith, four), one-started (call plan s (start 0) .counts) (m .counted)),
         )
 
+    -- the numbers that the opening stores
+    number-is : (a : ℕ) → a < 4 → unmetBy (s .counts) a ≡ freshCount (system (bodyOf (exampleWords 2))) (edgeTest (bodyOf (exampleWords 2))) (λ b. getD [] b 0) a
+    number-is a l =
+        let la : a < itemCount (planBody plan) = omega (arith, four) in
+        all-fresh plan (read-formed plan (R .plan-ready .read)) (s .counts) (s .values) fresh a la
+        ∙ (count-agree (system (planBody plan)) (edgeTest (planBody plan)) (doneBy (s .counts)) (λ b. getD [] b 0) a la (λ c lc. finished c (omega (arith, four)))
+        ∙ ap (λ (B : Body). freshCount (system B) (edgeTest B) (λ b. getD [] b 0) a) (body-is 2 example example-read plan s F))
+
+    stored-opened : map (unmetBy (s .counts)) (0 ∷ 1 ∷ 2 ∷ 3 ∷ []) ≡ 0 ∷ 1 ∷ 1 ∷ 1 ∷ []
+    stored-opened =
+        ap₂ _∷_ (number-is 0 (omega arith)) (ap₂ _∷_ (number-is 1 (omega arith)) (ap₂ _∷_ (number-is 2 (omega arith)) (ap₂ _∷_ (number-is 3 (omega arith)) refl)))
+        ∙ unmet-opened
+
+    -- another number of item a is stored
+    module _ (a n : ℕ) (l : a < 4) where
+      abbrev C : List ℕ
+      C = set (s .counts) (firstUnmet + a) n
+
+      is-stored : unmetBy C a ≡ n
+      is-stored = getD-set-same (s .counts) (firstUnmet + a) n 0 (omega (arith, R .plan-ready .long-counts))
+
+      same-count : (i : ℕ) → (i ≡ firstUnmet + a → ⊥) → getD C i 0 ≡ getD (s .counts) i 0
+      same-count i ne = getD-set-other (s .counts) (firstUnmet + a) i n 0 ne
+
+      not-started : (b : ℕ) → b < 4 → getD C b 0 ≡ 0
+      not-started b k = same-count b (λ e. omega (arith, e)) ∙ started b k
+
+      not-finished : (b : ℕ) → b < 4 → getD C (firstFinished + b) 0 ≡ 0
+      not-finished b k = same-count (firstFinished + b) (λ e. omega (arith, e)) ∙ finished b k
+
+      plan-stays : PlanReady plan C (s .values)
+      plan-stays =
+          let r = R .plan-ready in
+          record { long-plan = r .long-plan; long-counts = omega (arith, r .long-counts, length-set (s .counts) (firstUnmet + a) n); long-values = r .long-values; read = r .read }
+
+      stays-ready : n ≤ 4 → Ready plan C (s .values)
+      stays-ready m =
+          record {
+            plan-ready = plan-stays;
+            counts-formed = λ b lb.
+                let k : b < 4 = omega (arith, four) in
+                record { finished = omega (arith, not-finished b k); started = inl (not-started b k ∙ sym (not-finished b k)) };
+            numbers-formed = λ b lb.
+                elim (ℕ-discrete b a) [
+                  | yes e ↦ omega (arith, ap (unmetBy C) e, is-stored, four)
+                  | no ne ↦ omega (arith, same-count (firstUnmet + b) (λ e. ne (omega (arith, e))), R .numbers-formed b lb)
+                ];
+          }
+
+    stored-none : call plan (stored s 3 0) (start 3) .refusal ≡ 0
+    stored-none =
+        let k : 3 < 4 = omega arith in
+        steps 2 example example-read plan s F (stored s 3 0) .starts-stored 3 .1 (
+          stays-ready 3 0 k (omega arith),
+          record {
+            in-range = omega (arith, four);
+            left = omega (arith, two 3 k, not-finished 3 0 k 3 k);
+            idle = not-started 3 0 k 3 k ∙ sym (not-finished 3 0 k 3 k);
+            none-unmet = is-stored 3 0 k;
+          },
+        )
+
+    stored-most : call plan (stored s 0 4) (start 0) .refusal ≡ 16
+    stored-most =
+        let k : 0 < 4 = omega arith in
+        steps 2 example example-read plan s F (stored s 0 4) .numbers .start-16-stored 0 .1 (
+          stays-ready 0 4 k (omega arith),
+          omega (arith, four),
+          omega (arith, two 0 k, not-finished 0 4 k 0 k),
+          not-started 0 4 k 0 k ∙ sym (not-finished 0 4 k 0 k),
+          λ e. omega (arith, e, is-stored 0 4 k),
+        )
+
+    stored-above : (a : ℕ) → call plan (stored s 0 5) (start a) .refusal ≡ 12
+    stored-above a =
+        let k : 0 < 4 = omega arith in
+        let c : List ℕ = stored s 0 5 .counts in
+        steps 2 example example-read plan s F (stored s 0 5) .numbers .call-12 (start a) .1 (
+          not-short plan c (s .values) (ready-long plan c (s .values) (plan-stays 0 5 k)),
+          λ r. omega (arith, r .numbers-formed 0 (omega (arith, four)), is-stored 0 5 k, four),
+        )
+
   -- as many passes as there can be
   module _ (plan : List ℕ) (s : Lent) (F : Fresh (10 ^ 12) plan s) where
     abbrev longest : List ℕ
@@ -288,6 +377,11 @@ module _ (D : Demands) where
         unmet-task-run = unmet-task-run;
         unmet-send-run = unmet-send-run;
         unmet-ended = unmet-ended;
+        unmet-wrapped = unmet-wrapped;
+        stored-opened = stored-opened;
+        stored-none = stored-none;
+        stored-most = stored-most;
+        stored-above = stored-above;
         case-k = second-begin;
         case-l = named-twice;
       }

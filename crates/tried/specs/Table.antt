@@ -4,7 +4,7 @@ use Prim.Native.Nat.{ℕ, _+_, _-_, _*_, _^_, _≤_}
 use Prim.Native.String.{String}
 use mathlib.Core.Path.{_≡_}
 use mathlib.Core.List.{List, [], _∷_, _++_, map}
-use lib.ListN.{length, getD, replicate}
+use lib.ListN.{length, getD, set, replicate}
 use Rattle.kernels.specs.Kernels.{total, kernelWord}
 use Rattle.body.specs.Items.{itemPasses}
 use Rattle.body.specs.Places.{system}
@@ -16,11 +16,11 @@ use Rattle.plan.specs.Limits.{maxWord}
 use Rattle.plan.specs.Layout.{bodyOf}
 use Rattle.reading.specs.Reading.{readOf, readWithin, accepted as readTo, refused}
 use Rattle.reading.specs.Written.{textOf}
-use Rattle.steps.specs.State.{countWords, valueWords}
+use Rattle.steps.specs.State.{countWords, valueWords, firstUnmet, unmetBy}
 use Rattle.steps.specs.Answers.{Left, openOf}
 use Rattle.text.specs.Ascii.{ascii}
 use Rattle.report.specs.Report.{linesOf}
-use Rattle.steps.specs.Calls.{Call, start, finish, result, isStep, Lent, lentBy, call, play, accepted}
+use Rattle.steps.specs.Calls.{Call, start, finish, result, isStep, Lent, lent, lentBy, call, play, accepted}
 
 -- the example on two ranks ("The run program") with so many passes, in digits; with 2; with none
 abbrev pub exampleOf : String → List ℕ
@@ -88,10 +88,13 @@ pub record Accepts (r : Left) (v : ℕ) : Type 0 where
 abbrev pub after : List ℕ → Lent → List Call → Call → Left
 after plan s l c = call plan (play plan s l) c
 
--- how many waits of the example's four items are unmet, where they have finished so many passes
-abbrev pub unmetAt : List ℕ → List ℕ
-unmetAt finished =
-    map (freshCount (system (bodyOf (exampleWords 2))) (edgeTest (bodyOf (exampleWords 2))) (λ a. getD finished a 0)) (0 ∷ 1 ∷ 2 ∷ 3 ∷ [])
+-- how many waits of a plan's four items are unmet, where they have finished so many passes
+abbrev pub unmetAt : List ℕ → List ℕ → List ℕ
+unmetAt w finished = map (freshCount (system (bodyOf w)) (edgeTest (bodyOf w)) (λ a. getD finished a 0)) (0 ∷ 1 ∷ 2 ∷ 3 ∷ [])
+
+-- the state s with another number of unmet waits stored for item a
+abbrev pub stored : Lent → ℕ → ℕ → Lent
+stored s a n = lent (set (s .counts) (firstUnmet + a) n) (s .values)
 
 pub record Table : Type 0 where
   -- the texts are read to these words
@@ -138,13 +141,23 @@ pub record Table : Type 0 where
       (after plan s l (start 0) .word ≡ 2 ^ 32 + 5) × (getD (after plan s l (start 0) .counts) 0 0 ≡ 2 ^ 32)
   pub past-32-reached : (plan : List ℕ) (s : Lent) → Fresh (10 ^ 12) plan s →
       (l : List Call) × (getD (play plan s l .counts) 0 0 ≡ 2 ^ 32 - 1) × (after plan s l (start 0) .refusal ≡ 0)
-  -- card 7: at the opening each item but the first waits for the one before. Once item 0 has run, it
-  -- waits for the send, item 1, which waits for nothing. Once that has run too, item 0 may run again,
-  -- and the send waits for item 0 and for the receive. At the end nothing waits
-  pub unmet-opened : unmetAt [] ≡ 0 ∷ 1 ∷ 1 ∷ 1 ∷ []
-  pub unmet-task-run : unmetAt (1 ∷ []) ≡ 1 ∷ 0 ∷ 1 ∷ 1 ∷ []
-  pub unmet-send-run : unmetAt (1 ∷ 1 ∷ []) ≡ 0 ∷ 2 ∷ 0 ∷ 1 ∷ []
-  pub unmet-ended : unmetAt (2 ∷ 2 ∷ 2 ∷ 2 ∷ []) ≡ 0 ∷ 0 ∷ 0 ∷ 0 ∷ []
+  -- card 7: with no pass finished each item but the first waits for the one before. With item 0
+  -- finished once, it waits for the send, item 1, which waits for nothing. With the send finished
+  -- too, item 0 waits for nothing, and the send for item 0 and for the receive. At the end nothing
+  -- waits
+  pub unmet-opened : unmetAt (exampleWords 2) [] ≡ 0 ∷ 1 ∷ 1 ∷ 1 ∷ []
+  pub unmet-task-run : unmetAt (exampleWords 2) (1 ∷ []) ≡ 1 ∷ 0 ∷ 1 ∷ 1 ∷ []
+  pub unmet-send-run : unmetAt (exampleWords 2) (1 ∷ 1 ∷ []) ≡ 0 ∷ 2 ∷ 0 ∷ 1 ∷ []
+  pub unmet-ended : unmetAt (exampleWords 2) (2 ∷ 2 ∷ 2 ∷ 2 ∷ []) ≡ 0 ∷ 0 ∷ 0 ∷ 0 ∷ []
+  -- a wrapped transfer: its send, item 2, has finished its one pass, and waits for no other
+  pub unmet-wrapped : unmetAt aheadWords (1 ∷ 1 ∷ 1 ∷ 0 ∷ []) ≡ 1 ∷ 0 ∷ 0 ∷ 0 ∷ []
+  -- an opening of the example stores its numbers. A start goes by what is stored: with 0 that of
+  -- item 3 is accepted, with 4, the number of items, that of item 0 gives 16, and with 5 each gives
+  -- 12
+  pub stored-opened : (plan : List ℕ) (s : Lent) → Fresh 2 plan s → map (unmetBy (s .counts)) (0 ∷ 1 ∷ 2 ∷ 3 ∷ []) ≡ 0 ∷ 1 ∷ 1 ∷ 1 ∷ []
+  pub stored-none : (plan : List ℕ) (s : Lent) → Fresh 2 plan s → call plan (stored s 3 0) (start 3) .refusal ≡ 0
+  pub stored-most : (plan : List ℕ) (s : Lent) → Fresh 2 plan s → call plan (stored s 0 4) (start 0) .refusal ≡ 16
+  pub stored-above : (plan : List ℕ) (s : Lent) → Fresh 2 plan s → (a : ℕ) → call plan (stored s 0 5) (start a) .refusal ≡ 12
   -- D kernel 3 on four times 2^64 - 1, E on 1, 1, 1, 0, as card 3 has it
   pub case-d : (c : ℕ) → kernelWord 3 c ((2 ^ 64 - 1) ∷ (2 ^ 64 - 1) ∷ (2 ^ 64 - 1) ∷ (2 ^ 64 - 1) ∷ []) ≡ 2 ^ 64 - 1
   pub case-e : (c : ℕ) → kernelWord 3 c (1 ∷ 1 ∷ 1 ∷ 0 ∷ []) ≡ 1

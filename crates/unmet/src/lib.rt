@@ -1,6 +1,6 @@
 // What a finish does to the numbers of unmet waits that stand in the counts: one is taken off those
-// of the items whose wait it meets, and the item's own is counted afresh after it. Nothing is refused
-// here: a start looks at the numbers (crate calls).
+// of the items whose wait it meets, and the item's own is counted afresh after it. Nothing is
+// refused here: a start looks at the numbers (crate calls).
 ghost use Prim.Native.Nat.{_+_, _-_, _≤_, _<_};
 ghost use mathlib.Core.Path.{_≡_};
 ghost use mathlib.Core.Bool.{true, false, cond, _&&_};

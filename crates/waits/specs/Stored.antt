@@ -1,5 +1,5 @@
--- The numbers in a list, that of item a at place `first` + a: what a finish does to it, in the shape
--- of code. What else stands in the list stays.
+-- The numbers in a list, that of item a at place `first` + a: what a finish does to it, in the
+-- shape of code. What else stands in the list stays.
 use Prim.Native.Nat.{ℕ, suc, _+_, _-_}
 use mathlib.Core.Bool.{Bool, _&&_}
 use mathlib.Core.List.{List}

@@ -13,9 +13,9 @@ use Rattle.unroll.specs.Machine.{State, Met}
 use Rattle.edges.specs.Tests.{distance}
 
 module _ (S : System) where
-  -- of the waits of item a for the first pass that it has not finished, the one for item b is unmet:
-  -- an edge leads from b to a at distance d, and its source, b in pass p, is made and has not
-  -- finished. Where there is no such p, there is nothing to wait for
+  -- of the waits of item a for the first pass that it has not finished, the one for item b is
+  -- unmet: an edge leads from b to a at distance d, and its source, b in pass p, is made and has
+  -- not finished. Where there is no such p, there is nothing to wait for
   pub record Unmet (s : State) (a b : ℕ) : Type 0 where
     pub d : ℕ
     pub p : ℕ
