@@ -39,8 +39,8 @@ use Rattle.values.proofs.Plans.{plan-whole}
 use Rattle.values.proofs.Finding.{found-at, whole-plan}
 use Rattle.calls.specs.declared.Answer.{Answer}
 use Rattle.calls.specs.Told.{told}
-use Rattle.calls.specs.Doors.{Clear}
-use Rattle.calls.proofs.Counting.{countsBelow, counts-opened}
+use Rattle.doors.specs.Doors.{Clear}
+use Rattle.doors.proofs.Counting.{countsBelow, counts-opened}
 
 -- a result does not depend on the counts
 pub result-apart : (B : Body) (C D W : List ℕ) (g : ℕ) → regionResult B (stateOf C W) g ≡ regionResult B (stateOf D W) g

@@ -1,5 +1,3 @@
-pub mod Counting
-pub mod Entering
 pub mod Behind
 pub mod Finishing
 pub mod Readying

@@ -21,7 +21,7 @@ use Rattle.graph.specs.Answers.{planBody}
 use Rattle.steps.specs.Answers.{Left, startTests, started, refused}
 use Rattle.steps.specs.Calls.{start, lent, isAccepted}
 use Rattle.steps.specs.Ready.{readyItems}
-use Rattle.calls.specs.Doors.{Clear}
+use Rattle.doors.specs.Doors.{Clear}
 use Rattle.calls.proofs.Behind.{start-tested, whole}
 
 -- whether item a may start, which has `own` passes

@@ -14,7 +14,7 @@ ghost use Rattle.steps.specs.State.{doneBy};
 ghost use Rattle.steps.specs.Answers.{finishedCounts, finishOf};
 ghost use Rattle.values.specs.Items.{Found};
 ghost use Rattle.calls.specs.Told.{told};
-ghost use Rattle.calls.specs.Doors.{Clear};
+ghost use Rattle.doors.specs.Doors.{Clear};
 use crate::Answer;
 use crate::no_word;
 use plan::numbers::as_index;

@@ -6,7 +6,7 @@ ghost use Rattle.plan.specs.Sizes.{countWords, valueWords};
 ghost use Rattle.graph.specs.Table.{Graph};
 ghost use Rattle.steps.specs.Answers.{openOf};
 ghost use Rattle.calls.specs.Told.{toldOpening};
-use crate::counts::clear_counts;
+use doors::counts::clear_counts;
 use open_waits::open_numbers;
 use plan::state::Count;
 use plan::state::MAX_ITEMS;

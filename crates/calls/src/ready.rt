@@ -8,7 +8,7 @@ ghost use lib.ListN.{length};
 ghost use Rattle.finite.specs.Put.{Put, Added, RoomAt};
 ghost use Rattle.plan.specs.Sizes.{maxItems, valueWords};
 ghost use Rattle.steps.specs.Ready.{readyItems};
-ghost use Rattle.calls.specs.Doors.{Clear};
+ghost use Rattle.doors.specs.Doors.{Clear};
 use plan::layout::pass_count;
 use plan::numbers::as_word;
 use plan::numbers::narrow_16;

@@ -7,7 +7,7 @@ ghost use Rattle.plan.specs.Sizes.{countWords, valueWords};
 ghost use Rattle.steps.specs.Answers.{started, startOf};
 ghost use Rattle.values.specs.Items.{Found};
 ghost use Rattle.calls.specs.Told.{told};
-ghost use Rattle.calls.specs.Doors.{Clear};
+ghost use Rattle.doors.specs.Doors.{Clear};
 use crate::Answer;
 use crate::no_word;
 use plan::layout::pass_count;

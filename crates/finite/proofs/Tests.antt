@@ -64,3 +64,11 @@ ltb-next x g n =
       | yes l ↦ lt-ltb x (g + 1) (omega arith) ∙ sym (lt-ltb x g l)
       | no l ↦ le-ltb x (g + 1) (omega arith) ∙ sym (le-ltb x g (omega arith))
     ]
+
+-- two tests, each with a number more
+pub or-both : (x y u s : Bool) → (x || (y || (u || s))) ≡ ((y || u) || (x || s))
+or-both true true u s = refl
+or-both true false true s = refl
+or-both true false false s = refl
+or-both false true u s = refl
+or-both false false u s = refl

@@ -27,8 +27,8 @@ use Rattle.steps.specs.Ready.{readyItems, ReadyAnswer}
 use Rattle.steps.proofs.Accepting.{formedState, refusal-none}
 use Rattle.steps.proofs.Answering.{shortTest, short-slices}
 use Rattle.steps.proofs.Running.{cut-again, call-cut}
-use Rattle.calls.specs.declared.Entry.{Entry}
-use Rattle.calls.specs.Doors.{ByPlan, ByState}
+use Rattle.doors.specs.declared.Entry.{Entry}
+use Rattle.doors.specs.Doors.{ByPlan, ByState}
 use Rattle.calls.specs.Drawn.{Drawn}
 
 -- a plan that is cut to its size is long enough

@@ -25,8 +25,8 @@ use Rattle.steps.specs.Turns.{Going, Over}
 use Rattle.steps.proofs.Accepting.{refusal-none, long-slices, open-accepted, result-shown}
 use Rattle.values.specs.Items.{Formed}
 use Rattle.values.proofs.Plans.{facts}
-use Rattle.calls.specs.declared.Entry.{Entry}
-use Rattle.calls.specs.Doors.{ByPlan}
+use Rattle.doors.specs.declared.Entry.{Entry}
+use Rattle.doors.specs.Doors.{ByPlan}
 use Rattle.calls.specs.Drawn.{Drawn}
 use Rattle.calls.proofs.Behind.{graph-formed, result-apart}
 use Rattle.taskiter.specs.declared.Outcome.{Outcome}

@@ -11,7 +11,7 @@ use borrow.Author.Tests.{lt-ltb, le-ltb, le-leb, lt-leb, eq-eqb, ne-eqb, leb-tru
 use lib.Dec.{eqb, ltb, leb}
 use lib.ListN.{length, getD, set}
 use Rattle.finite.specs.Update.{replaced}
-use Rattle.finite.proofs.Tests.{or-cases, and-true}
+use Rattle.finite.proofs.Tests.{or-cases, and-true, or-both}
 use Rattle.finite.proofs.Replaced.{replaced-set, replaced-where, replaced-nowhere, replaced-twice, replaced-ext}
 use Rattle.finite.proofs.Within.{within, ltb-none, ltb-next, within-none, within-next}
 use Rattle.body.specs.Body.{Body, Fits, firstSlot}
@@ -51,14 +51,6 @@ chosen-next k q a i =
     one : (b : Bool) → b ≡ ((b && true) || false)
     one true = refl
     one false = refl
-
--- two tests, each with a number more
-pub or-both : (x y u s : Bool) → (x || (y || (u || s))) ≡ ((y || u) || (x || s))
-or-both true true u s = refl
-or-both true false true s = refl
-or-both true false false s = refl
-or-both false true u s = refl
-or-both false false u s = refl
 
 -- a place more, where t holds
 replaced-put : (p : ℕ → Bool) (f : ℕ → ℕ) (xs : List ℕ) (k v : ℕ) (t : Bool) → k < length xs → v ≡ f k →

@@ -13,7 +13,7 @@ use Rattle.graph.specs.Table.{tableOf, Graph}
 use Rattle.graph.specs.Answers.{refusalOf, longPlan, formedPlan, planBody}
 use Rattle.steps.specs.State.{stateOf, unmetBy}
 use Rattle.steps.specs.Answers.{countOk, formedCounts, formedNumbers}
-use Rattle.calls.specs.declared.Entry.{Entry}
+use Rattle.doors.specs.declared.Entry.{Entry}
 
 -- by the plan P, where the other slices are long enough or not
 pub record ByPlan (P : List ℕ) (long : Bool) (table : List ℕ) (r : Entry) (table′ : List ℕ) : Type 0 where

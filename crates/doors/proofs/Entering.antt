@@ -23,8 +23,8 @@ use Rattle.steps.specs.State.{stateOf, unmetBy}
 use Rattle.steps.specs.Answers.{countOk, formedCounts, formedNumbers}
 use Rattle.items.specs.declared.Made.{Made}
 use Rattle.items.proofs.Coding.{table-graph}
-use Rattle.calls.specs.declared.Entry.{Entry}
-use Rattle.calls.specs.Doors.{ByPlan, ByState}
+use Rattle.doors.specs.declared.Entry.{Entry}
+use Rattle.doors.specs.Doors.{ByPlan, ByState}
 
 -- a refusal is no other where more is tested, once there is one
 same-refused : (l f g : Bool) → (refusalOf l f true ≡ 0 → ⊥) → refusalOf l f true ≡ refusalOf l (f && g) true

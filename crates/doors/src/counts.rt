@@ -25,7 +25,7 @@ use plan::state::surplus;
 // passes, and as many started, or one more with a pass left; and no more unmet waits than items.
 // `apart` joins the passes started and not finished, 0 or 1 an item. `beyond` and `above` have
 // their top bit clear while no count of passes and no number is too large.
-pub(crate) fn are_formed(counts: &[Count], table: &[u16], passes: Count, n: usize) -> bool
+pub fn are_formed(counts: &[Count], table: &[u16], passes: Count, n: usize) -> bool
     requires { ⌜
         (countWords ≤ length (now counts)) × (n ≤ length (now table)) × (passes ≤ maxPasses) × (n ≤ maxItems)
         × ((a : ℕ) → a < n → codeFewer (getD (now table) a 0) ≤ 1)
@@ -55,7 +55,7 @@ pub(crate) fn are_formed(counts: &[Count], table: &[u16], passes: Count, n: usiz
 
 // Whether all n items of a table have finished the passes that they have. `missing` joins the
 // differences.
-pub(crate) fn are_complete(counts: &[Count], table: &[u16], passes: Count, n: usize) -> bool
+pub fn are_complete(counts: &[Count], table: &[u16], passes: Count, n: usize) -> bool
     requires { ⌜
         (countWords ≤ length (now counts)) × (n ≤ length (now table)) × (n ≤ maxItems)
         × ((a : ℕ) → a < n → codeFewer (getD (now table) a 0) ≤ 1)
@@ -75,7 +75,7 @@ pub(crate) fn are_complete(counts: &[Count], table: &[u16], passes: Count, n: us
 }
 
 // The started and finished passes of each of n items to 0.
-pub(crate) fn clear_counts(counts: &mut [Count], n: usize)
+pub fn clear_counts(counts: &mut [Count], n: usize)
     requires { ⌜ (countWords ≤ length (now counts)) × (n ≤ maxItems) ⌝ }
     ensures { λ _. ⌜ now (counts .exit) ≡ replaced (λ i. ltb i n || (leb firstFinished i && ltb i (firstFinished + n))) (λ i. 0) (now (counts .entry)) ⌝ }
 {

@@ -4,9 +4,9 @@ use borrow.Author.Needs.{needs}
 use denote.Ref.{now}
 use lib.Seq.{length-take-le}
 use Rattle.graph.proofs.Lookup.{passes-most, codes-few}
-use Rattle.calls.proofs.Entering.{state-refused, lent-plan, lent-counts, lent-graph, state-unformed, state-clear}
-use Rattle.calls.proofs.doors.enter_state.Statement.{statement}
-use Rattle.calls.proofs.doors.enter_state.Tie as tie
+use Rattle.doors.proofs.Entering.{state-refused, lent-plan, lent-counts, lent-graph, state-unformed, state-clear}
+use Rattle.doors.proofs.enter_state.Statement.{statement}
+use Rattle.doors.proofs.enter_state.Tie as tie
 
 returns : tie.Need-returns
 returns c =

@@ -8,9 +8,9 @@ use Rattle.finite.proofs.Tests.{and-parts}
 use Rattle.finite.proofs.Below.{all-none, all-done}
 use Rattle.plan.specs.Counts.{topBit}
 use Rattle.steps.specs.State.{firstFinished, firstUnmet}
-use Rattle.calls.proofs.Counting.{formedTo, formed-more, numbersTo, numbers-more}
-use Rattle.calls.proofs.counts.are_formed.Statement.{statement}
-use Rattle.calls.proofs.counts.are_formed.Tie as tie
+use Rattle.doors.proofs.Counting.{formedTo, formed-more, numbersTo, numbers-more}
+use Rattle.doors.proofs.counts.are_formed.Statement.{statement}
+use Rattle.doors.proofs.counts.are_formed.Tie as tie
 
 abbrev Inv-loop : tie.InvT-loop
 Inv-loop counts table passes n most apart₀ beyond₀ above₀ a₀ apart beyond above a =

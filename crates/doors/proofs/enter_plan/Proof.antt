@@ -1,9 +1,9 @@
 use mathlib.Core.Path.{sym}
 use borrow.Author.Needs.{needs}
 use denote.Ref.{now}
-use Rattle.calls.proofs.Entering.{plan-short, cut-long, plan-unformed, plan-clear}
-use Rattle.calls.proofs.doors.enter_plan.Statement.{statement}
-use Rattle.calls.proofs.doors.enter_plan.Tie as tie
+use Rattle.doors.proofs.Entering.{plan-short, cut-long, plan-unformed, plan-clear}
+use Rattle.doors.proofs.enter_plan.Statement.{statement}
+use Rattle.doors.proofs.enter_plan.Tie as tie
 
 returns : tie.Need-returns
 returns c = let s = c .before .before .before .before in plan-short (now (s .args .plan)) (now (s .args .table)) (s .args .long) _ (c .before .if1 .taken) (c .no-entry .ensures)

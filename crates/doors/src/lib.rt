@@ -6,8 +6,10 @@ ghost use lib.Dec.{ltb};
 ghost use lib.ListN.{length};
 ghost use Rattle.plan.specs.Layout.{planWords};
 ghost use Rattle.plan.specs.Sizes.{maxItems, countWords, valueWords};
-ghost use Rattle.calls.specs.Doors.{ByPlan, ByState};
-use crate::Entry;
+ghost use Rattle.doors.specs.Doors.{ByPlan, ByState};
+
+pub mod counts;
+
 use crate::counts::are_formed;
 use items::make_table;
 use plan::layout::PLAN_WORDS;
@@ -15,6 +17,12 @@ use plan::layout::pass_count;
 use plan::state::COUNTS;
 use plan::state::Count;
 use plan::state::VALUES;
+
+// What a door answers: the refusal, 0 if there is none, and then the number of items.
+pub struct Entry {
+    pub refusal: u64,
+    pub items: usize,
+}
 
 fn no_entry(refusal: u64) -> Entry
     ensures { λ r. ⌜ r ≡ record { refusal = refusal; items = 0 } ⌝ }

@@ -5,9 +5,9 @@ use denote.Ref.{now}
 use lib.Dec.{ltb}
 use Rattle.finite.proofs.Below.{all-none, all-done}
 use Rattle.steps.specs.State.{firstFinished}
-use Rattle.calls.proofs.Counting.{completeTo, complete-more}
-use Rattle.calls.proofs.counts.are_complete.Statement.{statement}
-use Rattle.calls.proofs.counts.are_complete.Tie as tie
+use Rattle.doors.proofs.Counting.{completeTo, complete-more}
+use Rattle.doors.proofs.counts.are_complete.Statement.{statement}
+use Rattle.doors.proofs.counts.are_complete.Tie as tie
 
 abbrev Inv-loop : tie.InvT-loop
 Inv-loop counts table passes n missing₀ a₀ missing a = (a ≤ n) × (ltb missing 1 ≡ completeTo counts table passes a)

@@ -5,9 +5,9 @@ use borrow.Author.Needs.{needs}
 use denote.Ref.{now}
 use lib.ListN.{length, length-set}
 use Rattle.finite.specs.Update.{replaced}
-use Rattle.calls.proofs.Counting.{countsBelow, counts-none, counts-more, counts-done}
-use Rattle.calls.proofs.counts.clear_counts.Statement.{statement}
-use Rattle.calls.proofs.counts.clear_counts.Tie as tie
+use Rattle.doors.proofs.Counting.{countsBelow, counts-none, counts-more, counts-done}
+use Rattle.doors.proofs.counts.clear_counts.Statement.{statement}
+use Rattle.doors.proofs.counts.clear_counts.Tie as tie
 
 abbrev Inv-loop : tie.InvT-loop
 Inv-loop counts₀ n a₀ counts a = (a ≤ n) × (length counts ≡ length counts₀) × (counts ≡ replaced (countsBelow a) (λ i. 0) counts₀)

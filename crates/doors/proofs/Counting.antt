@@ -13,7 +13,7 @@ use lib.Dec.{eqb, ltb, leb}
 use lib.ListN.{length, getD, set}
 use Rattle.finite.specs.Below.{allBelow}
 use Rattle.finite.specs.Update.{replaced}
-use Rattle.finite.proofs.Tests.{test-ext, and-true, or-cases}
+use Rattle.finite.proofs.Tests.{test-ext, and-true, or-cases, or-both}
 use Rattle.finite.proofs.Below.{all-more}
 use Rattle.finite.proofs.Bitwise.{or-below, or-more}
 use Rattle.finite.proofs.Replaced.{replaced-set, replaced-where, replaced-nowhere, replaced-twice, replaced-ext}
@@ -27,7 +27,6 @@ use Rattle.plan.specs.Counts.{topBit, surplusOf}
 use Rattle.plan.proofs.Surplus.{surplus-none}
 use Rattle.steps.specs.State.{stateOf, unmetBy}
 use Rattle.steps.specs.Answers.{countOk, isCount, openCount}
-use Rattle.values.proofs.Opening.{or-both}
 
 -- the counts of an item are in form exactly if the words that are made of them are small
 formed-words : (started finished own : ℕ) → started < 2 ^ 64 → finished < 2 ^ 64 → own ≤ maxPasses →
