@@ -150,7 +150,8 @@ static void try_number(struct trial *trial, struct rng *rng) {
                            try_call(trial, FINISH_CALL, least, 0).refusal != 12 ||
                            try_call(trial, RESULT_CALL, least, 0).refusal != 12 ||
                            try_call(trial, OPEN_CALL, least, 0).refusal != 0))
-        differ(trial, "item %d has the number %" PRIu64 ": 12 is not given, or is given to an opening",
+        differ(trial,
+               "item %d has the number %" PRIu64 ": 12 is not given, or is given to an opening",
                item, number);
     trial->lent = trial->expected = kept;
 }
