@@ -163,7 +163,7 @@ module _ (plan counts values : List ℕ) where
         | no f ↦ absurd (f (rw (ne-eqb n 0 f) at h))
       ]
 
-  unless-unchanged : (n : ℕ) (r : Left) → Unchanged r → Unchanged (unless plan counts values n r)
+  pub unless-unchanged : (n : ℕ) (r : Left) → Unchanged r → Unchanged (unless plan counts values n r)
   unless-unchanged n r u = go (eqb n 0)
     where
       go : (b : Bool) → Unchanged (cond b r (record { refusal = n; word = 0; counts = counts; values = values }))

@@ -37,16 +37,20 @@ countOk passes s a =
 abbrev pub isComplete : Body → State → Bool
 isComplete B s = allBelow (itemCount B) (λ a. eqb (s .finished a) (itemPasses B a))
 
--- 14, 15 and 16 of a start of item a with this number of unmet waits, 17 of a finish, 18 of a
--- result; 0 where none holds. Of the waits a start looks at the item's own number alone
-abbrev pub startTests : Body → State → ℕ → ℕ → ℕ
-startTests B s number a =
-    cond (ltb (s .finished a) (itemPasses B a))
+-- 14, 15 and 16 of a start of item a, which has so many passes, with this number of unmet waits; 0
+-- where none holds. Of the waits a start looks at the item's own number alone
+abbrev pub testsBy : ℕ → State → ℕ → ℕ → ℕ
+testsBy passes s number a =
+    cond (ltb (s .finished a) passes)
     (cond (eqb (s .started a) (s .finished a))
     (cond (eqb number 0) 0 16)
     15)
     14
 
+abbrev pub startTests : Body → State → ℕ → ℕ → ℕ
+startTests B s number a = testsBy (itemPasses B a) s number a
+
+-- 17 of a finish, 18 of a result
 abbrev pub finishTests : State → ℕ → ℕ
 finishTests s a = cond (eqb (s .started a) (s .finished a)) 17 0
 

@@ -1,0 +1,14 @@
+pub mod Parts
+pub mod Targets
+pub mod Few
+pub mod Preparing
+pub mod Coded
+pub mod Starting
+pub mod Lowering
+pub mod Usable
+pub mod Finishing
+pub mod Reached
+pub mod Same
+pub mod Playing
+pub mod Freeing
+pub mod Theorems
