@@ -1,0 +1,4 @@
+pub mod Padded
+pub mod Listed
+pub mod Targeted
+pub mod Filled
