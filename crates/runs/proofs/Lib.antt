@@ -1,5 +1,3 @@
-pub mod Rowing
-pub mod Drawing
 pub mod Stepping
 pub mod Readying
 pub mod Turning

@@ -1,6 +1,6 @@
 -- The set of the items that are ready when a run begins.
 use Prim.Native.Nat.{ℕ, _+_, _-_, _≤_, _<_}
-use mathlib.Core.Path.{_≡_, refl, sym, _∙_, ap}
+use mathlib.Core.Path.{_≡_, refl, sym, _∙_, ap, subst}
 use mathlib.Core.Bool.{Bool, true, false, not, _&&_, _||_, or-false, and-true as and-always}
 use mathlib.Core.List.{List}
 use native.Mathlib.Decide.{decLt, ℕ-discrete}
@@ -8,6 +8,7 @@ use native.Mathlib.Omega.{arith}
 use borrow.Author.Tests.{eq-eqb, ne-eqb, lt-ltb, le-ltb}
 use lib.Dec.{eqb, ltb}
 use lib.ListN.{length, getD, replicate, length-replicate}
+use Rattle.body.specs.Body.{Body}
 use Rattle.body.specs.Items.{itemCount}
 use Rattle.plan.specs.Layout.{bodyOf, passesOf}
 use Rattle.plan.specs.Code.{codeFewer}
@@ -19,6 +20,8 @@ use Rattle.graph.specs.Table.{Graph}
 use Rattle.graph.proofs.Lookup.{own-passes}
 use Rattle.steps.specs.State.{doneBy, unmetBy}
 use Rattle.steps.specs.Turns.{isReady}
+use Rattle.values.proofs.Plans.{plan-body}
+use Rattle.calls.proofs.Behind.{graph-formed}
 use Rattle.runs.specs.Turns.{ReadyBut}
 
 -- those of the first k items that are ready
@@ -74,11 +77,13 @@ module _ (w table : List ℕ) (n : ℕ) (G : Graph w table n) (C : List ℕ) whe
     pub below-done : n ≤ k → k ≤ n → ReadyBut w C maxItems words
     unfolding readyBelow
     below-done l m =
+        let F = graph-formed w table n G in
         record {
           size = E .size;
-          each = λ b u.
+          each = subst (λ (B : Body). (b : ℕ) → b < maxItems → inMask words b ≡ ((ltb b (itemCount B) && isReady B C b) && not (eqb b maxItems))) (sym (plan-body w F))
+              (λ b u.
               let i : k ≡ itemCount (bodyOf w) = omega (arith, G .count) in
               E .each b u
               ∙ (ap (λ (x : List ℕ). inMask x b || (ltb b k && isReady (bodyOf w) C b)) z
-              ∙ rw (none-in b u, i, ne-eqb b maxItems (λ e. omega arith)) (sym (and-always (ltb b (itemCount (bodyOf w)) && isReady (bodyOf w) C b))));
+              ∙ rw (none-in b u, i, ne-eqb b maxItems (λ e. omega arith)) (sym (and-always (ltb b (itemCount (bodyOf w)) && isReady (bodyOf w) C b)))));
         }

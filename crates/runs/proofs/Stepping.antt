@@ -15,7 +15,6 @@ use Rattle.unroll.specs.AnyOrder.{reached}
 use Rattle.unroll.proofs.Decide.{decides}
 use Rattle.unroll.proofs.Invariant.{Invariant, start-invariant}
 use Rattle.unroll.proofs.Runs.{reply-some, reached-invariant}
-use Rattle.body.specs.Body.{Body}
 use Rattle.body.specs.Items.{itemCount, itemPasses}
 use Rattle.body.specs.Places.{system}
 use Rattle.body.proofs.Made.{writers-made, waits-made}
@@ -23,7 +22,7 @@ use Rattle.edges.specs.Tests.{edgeTest}
 use Rattle.waits.specs.InStep.{InStep}
 use Rattle.waits.proofs.InStep.{in-step}
 use Rattle.waits.proofs.Bodies.{tells}
-use Rattle.plan.specs.Layout.{planWords, bodyOf}
+use Rattle.plan.specs.Layout.{planWords}
 use Rattle.graph.specs.Answers.{planBody}
 use Rattle.graph.proofs.Small.{plan-fits, plan-small}
 use Rattle.steps.specs.State.{doneBy, unmetBy}
@@ -33,7 +32,7 @@ use Rattle.steps.proofs.Simulating.{Tied, opened-tied, start-follows}
 use Rattle.steps.proofs.Playing.{stepsOf, play-tied}
 use Rattle.steps.proofs.Running.{ready-accepted}
 use Rattle.values.specs.Items.{Formed}
-use Rattle.values.proofs.Plans.{plan-long, plan-body, plan-formed}
+use Rattle.values.proofs.Plans.{plan-long, plan-formed}
 use Rattle.runs.specs.Turns.{Opened}
 
 module _ (w : List ℕ) (F : Formed w) (s₀ : Lent) (O : Opened w s₀) (s : Lent) (steps : ℕ) (G : Going w s₀ s steps) where
@@ -71,16 +70,10 @@ module _ (w : List ℕ) (F : Formed w) (s₀ : Lent) (O : Opened w s₀) (s : Le
     unfolding isReady
     number-none = eqb-true (unmetBy (s .counts) a) 0 (and-true (ltb (doneBy (s .counts) a) (itemPasses (planBody w) a)) (eqb (unmetBy (s .counts) a) 0) ready .1)
 
-    ready-steps : InStep S (edgeTest (planBody w)) (doneBy (s .counts)) (unmetBy (s .counts)) a
+    pub ready-steps : InStep S (edgeTest (planBody w)) (doneBy (s .counts)) (unmetBy (s .counts)) a
     ready-steps =
         let fits = plan-fits (take planWords w) (plan-formed w F) in
         in-step S (edgeTest (planBody w)) (tells (planBody w) fits (plan-small (take planWords w) (plan-formed w F) .regions)) (waits-made (planBody w) fits)
         (startState S machine a)
         (start-invariant S (writers-made (planBody w) fits) machine a machine-invariant machine-starts)
         a la started-one (doneBy (s .counts)) agree (unmetBy (s .counts)) (G .idle .fresh) number-none
-
-  pub going-steps : (a : ℕ) → a < itemCount (bodyOf w) → isReady (bodyOf w) (s .counts) a ≡ true →
-      InStep (system (bodyOf w)) (edgeTest (bodyOf w)) (doneBy (s .counts)) (unmetBy (s .counts)) a
-  going-steps a =
-      subst (λ (B : Body). a < itemCount B → isReady B (s .counts) a ≡ true → InStep (system B) (edgeTest B) (doneBy (s .counts)) (unmetBy (s .counts)) a) (plan-body w F)
-      (λ la r. ready-steps a la r)

@@ -1,6 +1,5 @@
 use borrow.Author.Needs.{needs}
 use denote.Ref.{now}
-use Rattle.runs.proofs.Drawing.{drawn-edges}
 use Rattle.runs.proofs.Opened.{graph-copied, opened-is, from-opening}
 use Rattle.runs.proofs.run_clear.Statement.{statement}
 use Rattle.runs.proofs.run_clear.Tie as tie
@@ -20,13 +19,12 @@ open-clear-requires c κs =
 
 run-opened-requires : tie.Need-run-opened-requires
 run-opened-requires c κs =
-    let open-clear = c .before .before .before .before .before .before .before .before in
+    let open-clear = c .before .before .before .before .before .before .before in
     let list-edges = open-clear .before .before .before .before .before .before in
     let copy-items = list-edges .before .before .before .before in
     let s = copy-items .before .before .before .before .before .before .before in
     let G = graph-copied _ _ _ _ _ (s .pre .0) (s .pre .0 .most) (copy-items .copy-items .ensures) in (
       G,
-      drawn-edges _ _ _ G _ _ _ (s .pre .2) (list-edges .list-edges .ensures),
       opened-is _ _ _ G (now (s .args .counts)) (now (s .args .values)) _ _ (s .pre .3)
           (s .pre .4) (open-clear .open-clear .ensures),
     )
@@ -34,7 +32,7 @@ run-opened-requires c κs =
 returns : tie.Need-returns
 returns c =
     let run-opened = c .before .before .before .before in
-    let open-clear = run-opened .before .before .before .before .before .before .before .before .before in
+    let open-clear = run-opened .before .before .before .before .before .before .before .before in
     let list-edges = open-clear .before .before .before .before .before .before in
     let copy-items = list-edges .before .before .before .before in
     let s = copy-items .before .before .before .before .before .before .before in
