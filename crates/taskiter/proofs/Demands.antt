@@ -34,7 +34,7 @@ use Rattle.steps.specs.Calls.{Call, Lent, lentBy, play}
 use Rattle.steps.proofs.Accepting.{long-slices, Clear, open-short, open-unchanged, open-accepted, start-clear}
 use Rattle.steps.proofs.Accepting.{start-turn, start-rule, finish-clear, finish-can, result-clear, result-complete, every-short, every-unchanged}
 use Rattle.steps.proofs.Made.{start-word, start-counts, start-values}
-use Rattle.taskiter.specs.Demands.{FitTold, TextRead, PlanReady, Steps, Demand1, Demand2, stepsOf, AtEnd, InAnyOrder, ReadyAfter, Opened, Demand3, Demands}
+use Rattle.taskiter.specs.Demands.{FitTold, TextRead, PlanReady, Steps, Demand1, Demand2, stepsOf, AtEnd, InAnyOrder, ReadyAfter, PreparedGiven, Opened, Demand3, Demands}
 use Rattle.taskiter.proofs.Freshness.{one-count, all-fresh, stays-fresh}
 use Rattle.taskiter.proofs.AnyOrder.{in-any-order}
 use Rattle.taskiter.proofs.Unread.{unread}
@@ -44,6 +44,7 @@ use Rattle.taskiter.proofs.Readiness.{ready-long, ready-form, ready-cle
 use Rattle.taskiter.proofs.Writing.{text-given}
 use Rattle.taskiter.proofs.Giving.{items-given, edges-given, total-given}
 use Rattle.taskiter.proofs.Listing.{ready-given, ready-after}
+use Rattle.taskiter.proofs.Preparation.{start-refused, finish-refused, prepared-given}
 use Rattle.taskiter.proofs.Replying.{call-word, word-call, in-words, play-refused, play-given}
 use Rattle.taskiter.proofs.Numbering.{numbers, open-made, finish-made, result-made, room, held-apart, own-rank}
 
@@ -113,6 +114,8 @@ demand-1 =
       opening = λ plan counts values. record { short = open-short plan counts values; changes-nothing = open-unchanged plan counts values };
       steps = λ plan s c. record { short = every-short plan s c; changes-nothing = every-unchanged plan s c };
       playing = play-refused;
+      prepared-starts = start-refused;
+      prepared-finishes = finish-refused;
       writing = text-given;
       texts = text-laws;
     }
@@ -189,6 +192,9 @@ opened-order text w behind counts values e long-counts long-values =
           (ready-after (w ++ behind) counts values (o .0) l items r items′ room A);
       played = λ before calls answers r counts′ values′ answers′ room P.
           play-given (bodyOf w) (w ++ behind) (lentBy (openOf (w ++ behind) counts values)) (o .1) before calls answers (o .2 before .long) room r counts′ values′ answers′ P;
+      prepared = λ tables r tables′ room A.
+          subst (λ (v : List ℕ). PreparedGiven (bodyOf v) (w ++ behind) opened r tables′) (take-at w behind planWords size)
+          (prepared-given (w ++ behind) counts values (o .0) tables r tables′ room A);
     }
   where
     read-ready : (c v : List ℕ) → length w ≡ planWords → Clear (w ++ behind) c v → PlanReady (w ++ behind) c v

@@ -11,7 +11,9 @@ pub mod Replying
 pub mod Numbering
 pub mod Means
 pub mod Kept
+pub mod Preparation
 pub mod Demands
 pub mod Exported
 pub mod Ending
 pub mod Showing
+pub mod Stepped

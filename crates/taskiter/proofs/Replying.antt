@@ -98,7 +98,7 @@ module _ (plan C W calls A : List ℕ) where
 
 -- demand 3
 
-play-append : (plan : List ℕ) (l k : List Call) (s : Lent) → play plan s (l ++ k) ≡ play plan (play plan s l) k
+pub play-append : (plan : List ℕ) (l k : List Call) (s : Lent) → play plan s (l ++ k) ≡ play plan (play plan s l) k
 unfolding play
 play-append plan [] k s = refl
 play-append plan (c ∷ l) k s = play-append plan l k (lentBy (call plan s c))

@@ -1,8 +1,9 @@
 -- The three demands on the runtime, stated over the contracts of its functions (src/lib.rt): the
 -- definitions that they are equated with, `openOf`, `startOf`, `finishOf`, `resultOf` of the crate
--- steps, and the records that hold of their answers, `Reads`, `ItemsAnswer`, `EdgesAnswer`,
--- `TotalAnswer`, `ReadyAnswer`, `Played` and `WriteAnswer`. Proved in proofs/Demands.antt. That
--- nothing undefined is done and every call ends is the check of the code itself.
+-- steps, `startPrepared` and `finishPrepared` of the crate prepared, and the records that hold of
+-- their answers, `Reads`, `ItemsAnswer`, `EdgesAnswer`, `TotalAnswer`, `ReadyAnswer`, `Played`,
+-- `WriteAnswer`, `PrepareAnswer` and `FreeingAnswer`. Proved in proofs/Demands.antt. That nothing
+-- undefined is done and every call ends is the check of the code itself.
 use Prim.Native.Nat.{ℕ, suc, _+_, _-_, _*_, _≤_, _<_}
 use mathlib.Core.Path.{_≡_}
 use mathlib.Core.Bool.{Bool, true, false, cond}
@@ -11,7 +12,7 @@ use mathlib.Core.List.{List, [], _∷_, _++_, map, List·Memᴰ as In}
 use lib.Dec.{leb}
 use lib.ListN.{length, getD, set, take, drop, replicate}
 use Rattle.finite.specs.Below.{countBelow}
-use Rattle.finite.specs.Lists.{mem}
+use Rattle.finite.specs.Lists.{mem, distinct}
 use Rattle.kernels.specs.Kernels.{total, Nearest, MeanLaws}
 use Rattle.unroll.specs.System.{Accesses}
 use Rattle.unroll.specs.Sequential.{wordOn}
@@ -44,6 +45,9 @@ use Rattle.steps.specs.State.{countWords, valueWords, firstFinished, firstUnmet
 use Rattle.steps.specs.Answers.{Left, openOf, startOf, finishOf, resultOf}
 use Rattle.steps.specs.Calls.{Call, start, finish, result, isStart, isFinish, isStep, Lent, lent, lentBy, call, play, replies, accepted}
 use Rattle.steps.specs.Ready.{ReadyAnswer}
+use Rattle.prepared.specs.Tables.{preparedWords, PrepareAnswer}
+use Rattle.prepared.specs.Steps.{startPrepared, finishPrepared, FreeingAnswer}
+use Rattle.prepared.specs.Calls.{Made, callsOf as callsMade, callMade, playMade, repliesMade, acceptedMade}
 use Rattle.taskiter.specs.Given.{FromText, ItemsGiven, EdgesGiven, TotalGiven, TextGiven}
 use Rattle.taskiter.specs.Kept.{Kept, CountsFit}
 use Rattle.taskiter.specs.Played.{callOf, callsOf, ahead, wordOf, numberOf, callNumbers, Played}
@@ -85,12 +89,19 @@ pub record PlayRefused (plan counts values calls answers : List ℕ) (r : ℕ) (
   pub changes-nothing : r ≡ 11 → (counts′ ≡ counts) × (values′ ≡ values) × (answers′ ≡ answers)
   pub else-0 : (r ≡ 11 → ⊥) → r ≡ 0
 
+-- what a step by tables gets
+pub record PreparedRefused (plan tables counts values : List ℕ) (r : Left) : Type 0 where
+  pub short : (Short plan counts values ⊎ (length tables < preparedWords)) ↔ (r .refusal ≡ 11)
+  pub changes-nothing : (r .refusal ≡ 0 → ⊥) → (r .word ≡ 0) × (r .counts ≡ counts) × (r .values ≡ values)
+
 pub record Demand1 : Type 0 where
   pub reading : (text plan : List ℕ) (r : Answer) (left : List ℕ) → Reads text plan r left → TextRead text plan r left
   pub opening : (plan counts values : List ℕ) → CallRefused plan counts values (openOf plan counts values)
   pub steps : (plan : List ℕ) (s : Lent) (c : Call) → CallRefused plan (s .counts) (s .values) (call plan s c)
   pub playing : (plan counts values calls answers : List ℕ) (r : ℕ) (counts′ values′ answers′ : List ℕ) →
       Played plan counts values calls answers r counts′ values′ answers′ → PlayRefused plan counts values calls answers r counts′ values′ answers′
+  pub prepared-starts : (plan tables counts values : List ℕ) (a : ℕ) → PreparedRefused plan tables counts values (startPrepared plan tables counts values a)
+  pub prepared-finishes : (plan tables counts values : List ℕ) (a : ℕ) → PreparedRefused plan tables counts values (finishPrepared plan tables counts values a)
   pub writing : (plan text : List ℕ) (r : Number) (text′ : List ℕ) → ((i : ℕ) → getD plan i 0 ≤ maxWord) →
       WriteAnswer plan text r text′ → TextGiven plan text r text′
   -- what holds of written texts
@@ -377,6 +388,33 @@ module _ (B : Body) (plan : List ℕ) (s : Lent) where
     pub state : lent counts′ values′ ≡ play plan s (before ++ callsOf calls)
     pub in-any-order : InAnyOrder (before ++ callsOf calls)
 
+  -- what C gets from `taskiter_finish_freeing` of item a after the list l, where its slice has room
+  pub record Freed (l : List Call) (a : ℕ) (freed : List ℕ) (r : Left) (freed′ : List ℕ) : Type 0 where
+    -- it answers and leaves what the ordinary finish does
+    pub same : r ≡ callAfter l (finish a)
+    -- accepted, it lists just the items whose start it makes accepted, each once: their number, and
+    -- they; what lies behind stays. It takes none off those whose start was accepted before
+    pub exactly : r .refusal ≡ 0 → (b : ℕ) → In b (take (getD freed′ 0 0) (drop 1 freed′))
+        ↔ ((callAfter (l ++ (finish a ∷ [])) (start b) .refusal ≡ 0) × (callAfter l (start b) .refusal ≡ 0 → ⊥))
+    pub once : r .refusal ≡ 0 → distinct (take (getD freed′ 0 0) (drop 1 freed′)) ≡ true
+    pub fits : r .refusal ≡ 0 → getD freed′ 0 0 ≤ maxItems
+    pub behind : r .refusal ≡ 0 → drop (1 + getD freed′ 0 0) freed′ ≡ drop (1 + getD freed′ 0 0) freed
+    pub kept : r .refusal ≡ 0 → (b : ℕ) → callAfter l (start b) .refusal ≡ 0 → callAfter (l ++ (finish a ∷ [])) (start b) .refusal ≡ 0
+    pub refused : (r .refusal ≡ 0 → ⊥) → freed′ ≡ freed
+
+  -- what C gets of tables that `taskiter_prepare` leaves, with the answer r. A list m of calls is by
+  -- these tables or ordinary, call by call, in any mixture
+  pub record PreparedGiven (r : Number) (tables : List ℕ) : Type 0 where
+    pub made : (r .refusal ≡ 0) × (r .number ≡ itemCount B)
+    -- its calls answer and leave what the ordinary ones do, and as many are accepted. So what is said
+    -- of the ordinary calls, `InAnyOrder` of the list `callsMade m`, holds of it
+    pub replied : (m : List Made) → repliesMade plan tables s m ≡ replies plan s (callsMade m)
+    pub state : (m : List Made) → playMade plan tables s m ≡ play plan s (callsMade m)
+    pub counted : (t : Call → Bool) (m : List Made) → acceptedMade plan tables t s m ≡ accepted plan t s (callsMade m)
+    pub next : (m : List Made) (c : Made) → callMade plan tables (playMade plan tables s m) c ≡ callAfter (callsMade m) (c .call)
+    pub freed : (m : List Made) (a : ℕ) (freed : List ℕ) (q : Left) (freed′ : List ℕ) → maxItems < length freed →
+        let t = playMade plan tables s m in FreeingAnswer plan tables (t .counts) (t .values) freed a q freed′ → Freed (callsMade m) a freed q freed′
+
 -- an accepted text, its words w in a lent plan, and lent counts and values
 pub record Opened (text w plan counts values : List ℕ) : Type 0 where
   pub size : length w ≡ planWords
@@ -402,6 +440,9 @@ pub record Opened (text w plan counts values : List ℕ) : Type 0 where
   pub played : (before : List Call) (calls answers : List ℕ) (r : ℕ) (counts′ values′ answers′ : List ℕ) → 2 * length calls ≤ length answers →
       let s = play plan (lentBy (openOf plan counts values)) before in Played plan (s .counts) (s .values) calls answers r counts′ values′ answers′ →
       PlayGiven (bodyOf w) plan (lentBy (openOf plan counts values)) before calls answers r counts′ values′ answers′
+  -- what C gets from `taskiter_prepare`, whose contract is `PrepareAnswer`, and by its tables
+  pub prepared : (tables : List ℕ) (r : Number) (tables′ : List ℕ) → preparedWords ≤ length tables → PrepareAnswer plan tables r tables′ →
+      PreparedGiven (bodyOf w) plan (lentBy (openOf plan counts values)) r tables′
 
 pub record Demand3 : Type 0 where
   pub any-order : (text w behind counts values : List ℕ) → readOf text ≡ readTo w → countWords ≤ length counts → valueWords ≤ length values →

@@ -1,6 +1,7 @@
 // The runtime, as a C host calls it: reading, writing, opening, start, finish and result on lent
-// slices, lists of these, the items that are ready, and the graph besides (include/taskiter.h). A
-// call looks at the plan and the state that it is lent, and keeps nothing between calls.
+// slices, lists of these, the items that are ready, the graph besides, and steps by the tables of a
+// prepared plan (include/taskiter.h). A call looks at what it is lent, and keeps nothing between
+// calls.
 ghost use mathlib.Core.Path.{_≡_};
 ghost use mathlib.Core.Bool.{cond};
 ghost use Rattle.reader.specs.Answer.{Reads};
@@ -8,6 +9,8 @@ ghost use Rattle.graph.specs.Answers.{ItemsAnswer, EdgesAnswer, TotalAnswer};
 ghost use Rattle.steps.specs.Answers.{openOf, startOf, finishOf, resultOf};
 ghost use Rattle.steps.specs.Calls.{start, finish, lent, call};
 ghost use Rattle.steps.specs.Ready.{ReadyAnswer};
+ghost use Rattle.prepared.specs.Tables.{PrepareAnswer};
+ghost use Rattle.prepared.specs.Steps.{startPrepared, finishPrepared, FreeingAnswer};
 ghost use Rattle.writer.specs.Answer.{WriteAnswer};
 ghost use Rattle.calls.specs.Told.{told, toldOpening};
 ghost use Rattle.taskiter.specs.Played.{callOf, Played};
@@ -24,9 +27,13 @@ use calls::totals::total_steps;
 use doors::enter_plan;
 use doors::enter_state;
 use doors::is_short;
+use engine::finishes::finish_item;
+use engine::starts::start_item;
 use graph::Number;
 use graph::no_number;
 use plan::layout::PLAN_WORDS;
+use plan::limits::MAX_ACCESSES;
+use plan::numbers::as_index;
 use plan::numbers::as_word;
 use plan::state::COUNTS;
 use plan::state::Count;
@@ -34,8 +41,15 @@ use plan::state::EDGE_WORDS;
 use plan::state::MAX_ITEMS;
 use plan::state::RESULTS;
 use plan::state::VALUES;
+use prepared::PREPARED;
+use ranges::finish_refusal;
+use ranges::start_refusal;
 use runs::run_clear;
 use runs::shown::put_results;
+use tables::make_tables;
+
+// The numbers of a list of freed items: how many they are, and they.
+const FREED: usize = 641;
 
 // Reads a text into a lent plan.
 #[no_mangle]
@@ -104,9 +118,9 @@ pub extern "C" fn taskiter_write(plan: &[u64], text: &mut [u8]) -> Number
 // The version of this interface: TASKITER_VERSION of the header.
 #[no_mangle]
 pub extern "C" fn taskiter_version() -> u64
-    ensures { λ r. ⌜ r ≡ 5 ⌝ }
+    ensures { λ r. ⌜ r ≡ 6 ⌝ }
 {
-    5
+    6
 }
 
 // Opens a lent state for a plan; answers the refusal, 0 if there is none.
@@ -248,6 +262,94 @@ pub extern "C" fn taskiter_ready(
         refusal: 0,
         number: as_word(number),
     }
+}
+
+// Fills the tables of a plan in a lent slice, for steps by them; the number is that of its items.
+#[no_mangle]
+pub extern "C" fn taskiter_prepare(plan: &[u64], tables: &mut [u16]) -> Number
+    ensures { λ r. ⌜ PrepareAnswer (now (plan .entry)) (now (tables .entry)) r (now (tables .exit)) ⌝ }
+{
+    let mut table = [0u16; MAX_ITEMS];
+    let entry = enter_plan(plan, PREPARED <= tables.len(), &mut table);
+    if entry.refusal != 0 {
+        return no_number(entry.refusal);
+    }
+    make_tables(&plan[..PLAN_WORDS], &table, entry.items, tables);
+    Number {
+        refusal: 0,
+        number: as_word(entry.items),
+    }
+}
+
+// Starts the next pass of an item by the tables: it looks at the words of this item alone.
+#[no_mangle]
+pub extern "C" fn taskiter_start_prepared(
+    plan: &[u64],
+    tables: &[u16],
+    counts: &mut [Count],
+    values: &mut [u64],
+    item: u64,
+) -> Answer
+    ensures { λ r. ⌜
+        told r (now (counts .exit)) (now (values .exit))
+        ≡ startPrepared (now (plan .entry)) (now (tables .entry)) (now (counts .entry)) (now (values .entry)) item
+        ⌝ }
+{
+    let refusal = start_refusal(plan, tables, counts, values.len(), item);
+    if refusal != 0 {
+        return no_word(refusal);
+    }
+    let mut room = [0u64; MAX_ACCESSES];
+    Answer {
+        refusal: 0,
+        word: start_item(plan, tables, as_index(item), counts, values, &mut room),
+    }
+}
+
+// Finishes the pass of an item that runs by the tables, and lists the items that this makes ready.
+#[no_mangle]
+pub extern "C" fn taskiter_finish_freeing(
+    plan: &[u64],
+    tables: &[u16],
+    counts: &mut [Count],
+    values: &mut [u64],
+    freed: &mut [u16],
+    item: u64,
+) -> Answer
+    ensures { λ r. ⌜
+        FreeingAnswer (now (plan .entry)) (now (tables .entry)) (now (counts .entry)) (now (values .entry)) (now (freed .entry)) item
+        (told r (now (counts .exit)) (now (values .exit))) (now (freed .exit))
+        ⌝ }
+{
+    if freed.len() < FREED {
+        return no_word(11);
+    }
+    let refusal = finish_refusal(plan, tables, counts, values.len(), item);
+    if refusal != 0 {
+        return no_word(refusal);
+    }
+    Answer {
+        refusal: 0,
+        word: finish_item(plan, tables, as_index(item), counts, values, freed),
+    }
+}
+
+// As `taskiter_finish_freeing`, with no list.
+#[no_mangle]
+pub extern "C" fn taskiter_finish_prepared(
+    plan: &[u64],
+    tables: &[u16],
+    counts: &mut [Count],
+    values: &mut [u64],
+    item: u64,
+) -> Answer
+    ensures { λ r. ⌜
+        told r (now (counts .exit)) (now (values .exit))
+        ≡ finishPrepared (now (plan .entry)) (now (tables .entry)) (now (counts .entry)) (now (values .entry)) item
+        ⌝ }
+{
+    let mut freed = [0u16; FREED];
+    taskiter_finish_freeing(plan, tables, counts, values, &mut freed, item)
 }
 
 // The call that a word says: 3 × its number, and 0 for a start, 1 for a finish, 2 for a result.

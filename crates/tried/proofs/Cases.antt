@@ -5,10 +5,11 @@ use mathlib.Core.List.{[], _∷_, flatMap}
 use mathlib.Core.Option.{orElse}
 use native.Mathlib.Omega.{arith}
 use Rattle.finite.specs.Below.{allBelow, anyBelow, countBelow}
-use Rattle.finite.specs.Lists.{mem, gather, range}
+use Rattle.finite.specs.Lists.{mem, gather, range, tabulate}
 use Rattle.kernels.specs.Kernels.{suits}
 use Rattle.body.specs.Transfers.{lastBefore, source, wanted, transferred, transfersOf, wrapped}
 use Rattle.body.specs.Items.{itemList, itemAt, fewer}
+use Rattle.body.specs.Places.{system}
 use Rattle.body.specs.TwoRanks.{tenEdges}
 use Rattle.edges.specs.Rule.{AllEdges}
 use Rattle.edges.specs.Touch.{touch, touchOn}
@@ -16,7 +17,9 @@ use Rattle.edges.specs.Tests.{written, writtenBetween as between, crossed, pair
 use Rattle.edges.specs.EdgeList.{edgesFrom, edgeList}
 use Rattle.edges.proofs.AllEdges.{all-edges}
 use Rattle.waits.specs.Waits.{isUnmet, freshCount}
+use Rattle.waits.specs.InStep.{sourcesOf}
 use Rattle.plan.specs.Layout.{bodyOf}
+use Rattle.prepared.specs.Tables.{leads, targetsOf}
 use Rattle.plan.specs.Form.{wordsOk, wordsWithin}
 use Rattle.plan.proofs.Facts.{fits}
 use Rattle.tried.specs.Table.{exampleWords, readersWords, aheadWords, unmetAt}
@@ -45,6 +48,16 @@ two-readers-list = refl
 
 pub two-readers-edges : AllEdges (bodyOf readersWords) ((0, 0, 1) ∷ (1, 1, 1) ∷ [])
 two-readers-edges = subst (AllEdges (bodyOf readersWords)) two-readers-list (all-edges (bodyOf readersWords) (fits readersWords two-readers-ok) (omega arith))
+
+-- prepared plans: the targets and sources of the example's items
+
+pub targets-example : tabulate 4 (targetsOf (bodyOf (exampleWords 2))) ≡ (1 ∷ []) ∷ (0 ∷ 2 ∷ []) ∷ (1 ∷ 3 ∷ []) ∷ (2 ∷ []) ∷ []
+unfolding itemList flatMap range gather transfersOf transferred wanted allBelow anyBelow countBelow source orElse lastBefore mem wrapped fewer itemAt touch touchOn written between crossed paired copyEdge edgeTest tabulate leads targetsOf
+targets-example = refl
+
+pub sources-example : tabulate 4 (sourcesOf (system (bodyOf (exampleWords 2))) (edgeTest (bodyOf (exampleWords 2)))) ≡ 1 ∷ 2 ∷ 2 ∷ 1 ∷ []
+unfolding itemList flatMap range gather transfersOf transferred wanted allBelow anyBelow countBelow source orElse lastBefore mem wrapped fewer itemAt touch touchOn written between crossed paired copyEdge edgeTest tabulate sourcesOf
+sources-example = refl
 
 -- card 7: the unmet waits of the example's items, and where a transfer is wrapped
 

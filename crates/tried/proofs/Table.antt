@@ -26,7 +26,7 @@ use Rattle.plan.specs.Layout.{planWords, bodyOf}
 use Rattle.reading.specs.Reading.{readOf, accepted as readTo}
 use Rattle.kernels.proofs.Cases.{mean-widest, mean-rounded, mean-of-3, mean-of-6, mean-of-10, sum-wraps, difference-wraps}
 use Rattle.graph.specs.Answers.{planBody}
-use Rattle.tried.proofs.Cases.{two-ranks-edges, two-readers-edges, unmet-opened, unmet-task-run, unmet-send-run, unmet-ended, unmet-wrapped}
+use Rattle.tried.proofs.Cases.{two-ranks-edges, two-readers-edges, unmet-opened, unmet-task-run, unmet-send-run, unmet-ended, unmet-wrapped, targets-example, sources-example}
 use Rattle.steps.specs.State.{stateOf, firstFinished, firstUnmet, doneBy, unmetBy}
 use Rattle.steps.specs.Answers.{openOf}
 use Rattle.steps.specs.Calls.{Call, start, finish, result, isStep, Lent, lentBy, call, play, accepted}
@@ -378,6 +378,8 @@ module _ (D : Demands) where
         unmet-send-run = unmet-send-run;
         unmet-ended = unmet-ended;
         unmet-wrapped = unmet-wrapped;
+        targets-example = targets-example;
+        sources-example = sources-example;
         stored-opened = stored-opened;
         stored-none = stored-none;
         stored-most = stored-most;

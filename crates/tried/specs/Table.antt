@@ -5,6 +5,7 @@ use Prim.Native.String.{String}
 use mathlib.Core.Path.{_≡_}
 use mathlib.Core.List.{List, [], _∷_, _++_, map}
 use lib.ListN.{length, getD, set, replicate}
+use Rattle.finite.specs.Lists.{tabulate}
 use Rattle.kernels.specs.Kernels.{total, kernelWord}
 use Rattle.body.specs.Items.{itemPasses}
 use Rattle.body.specs.Places.{system}
@@ -12,12 +13,14 @@ use Rattle.body.specs.TwoRanks.{tenEdges}
 use Rattle.edges.specs.Rule.{AllEdges}
 use Rattle.edges.specs.Tests.{edgeTest}
 use Rattle.waits.specs.Waits.{freshCount}
+use Rattle.waits.specs.InStep.{sourcesOf}
 use Rattle.plan.specs.Limits.{maxWord}
 use Rattle.plan.specs.Layout.{bodyOf}
 use Rattle.reading.specs.Reading.{readOf, readWithin, accepted as readTo, refused}
 use Rattle.reading.specs.Written.{textOf}
 use Rattle.steps.specs.State.{countWords, valueWords, firstUnmet, unmetBy}
 use Rattle.steps.specs.Answers.{Left, openOf}
+use Rattle.prepared.specs.Tables.{targetsOf}
 use Rattle.text.specs.Ascii.{ascii}
 use Rattle.report.specs.Report.{linesOf}
 use Rattle.steps.specs.Calls.{Call, start, finish, result, isStep, Lent, lent, lentBy, call, play, accepted}
@@ -151,6 +154,10 @@ pub record Table : Type 0 where
   pub unmet-ended : unmetAt (exampleWords 2) (2 ∷ 2 ∷ 2 ∷ 2 ∷ []) ≡ 0 ∷ 0 ∷ 0 ∷ 0 ∷ []
   -- a wrapped transfer: its send, item 2, has finished its one pass, and waits for no other
   pub unmet-wrapped : unmetAt aheadWords (1 ∷ 1 ∷ 1 ∷ 0 ∷ []) ≡ 1 ∷ 0 ∷ 0 ∷ 0 ∷ []
+  -- prepared, the example has these targets, and so many other items have an edge to each of its
+  -- items
+  pub targets-example : tabulate 4 (targetsOf (bodyOf (exampleWords 2))) ≡ (1 ∷ []) ∷ (0 ∷ 2 ∷ []) ∷ (1 ∷ 3 ∷ []) ∷ (2 ∷ []) ∷ []
+  pub sources-example : tabulate 4 (sourcesOf (system (bodyOf (exampleWords 2))) (edgeTest (bodyOf (exampleWords 2)))) ≡ 1 ∷ 2 ∷ 2 ∷ 1 ∷ []
   -- an opening of the example stores its numbers. A start goes by what is stored: with 0 that of
   -- item 3 is accepted, with 4, the number of items, that of item 0 gives 16, and with 5 each gives
   -- 12
