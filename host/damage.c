@@ -187,13 +187,12 @@ void damage_group(struct trial *trial, struct rng *rng) {
     try_no_plan(trial, rng);
 }
 
-/* A length around the least one. */
-static size_t draw_length(struct rng *rng, size_t enough) {
+size_t draw_length(struct rng *rng, size_t enough) {
     const size_t lengths[] = {0, 1, enough / 2, enough - 1, enough, enough, enough, enough + 1};
     return lengths[draw_below(rng, 8)];
 }
 
-static struct lengths draw_lengths(struct rng *rng) {
+struct lengths draw_lengths(struct rng *rng) {
     return (struct lengths){draw_length(rng, PLAN_WORDS), draw_length(rng, COUNTS),
                             draw_length(rng, VALUES)};
 }

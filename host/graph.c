@@ -158,6 +158,11 @@ static bool written_between(const struct graph *graph, int place, int after, int
     return false;
 }
 
+uint16_t item_number(const struct item *item) {
+    return (uint16_t)(item->fewer * 8192 + item->rank * 512 + (int)item->kind * 128 +
+                      (item->kind == TASK ? item->task : item->region));
+}
+
 uint64_t own_passes(const struct plan *plan, const struct item *item) {
     uint64_t fewer = (uint64_t)item->fewer;
     return plan->passes > fewer ? plan->passes - fewer : 0;

@@ -56,6 +56,9 @@ void make_graph(const struct plan *plan, struct graph *graph);
    itself in the next pass. */
 bool rule_holds(const struct graph *graph, int a, int b, int distance);
 
+/* An item's number as the runtime lists it (docs/LAYOUT.md). */
+uint16_t item_number(const struct item *item);
+
 /* The passes that an item of the plan has: the plan's, less those that it has fewer, or 0. */
 uint64_t own_passes(const struct plan *plan, const struct item *item);
 

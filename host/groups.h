@@ -54,11 +54,20 @@ void search_group(struct trial *trial, struct rng *rng);
    waits put by hand, in form or not: calls go by what is stored. */
 void waits_group(struct trial *trial, struct rng *rng);
 
+/* Prepared tables: steps by them and ordinary ones, mixed, leave what ordinary ones do on a copy;
+   the items that a finish lists are those that it made ready; any content of tables, plan and
+   state is taken as it stands, or refused. */
+void prepared_group(struct trial *trial, struct rng *rng);
+
 /* The size of a group's plan: of 32, two have as many items as there can be, and two are large. */
 enum size size_of(long number);
 
 /* A block of this size, or of one byte where it is 0, which is not set. */
 void *room(size_t size);
+
+/* Slices of exactly these lengths, which hold nothing yet. */
+struct slices bare_slices(struct lengths lengths);
+void free_slices(struct slices slices);
 
 /* A random plan in memory that is otherwise filled at random. */
 void put_drawn_plan(struct trial *trial, struct rng *rng);
@@ -68,6 +77,10 @@ uint64_t draw_asked(struct rng *rng, int n);
 
 /* Lengths that are long enough, now and then longer. */
 struct lengths draw_enough(struct rng *rng);
+
+/* A length around the least one; such lengths for all slices of a call. */
+size_t draw_length(struct rng *rng, size_t enough);
+struct lengths draw_lengths(struct rng *rng);
 
 /* An item whose step is free: the lowest (pick 0), the highest (1) or a random one; -1 if there is
    none. */

@@ -4,10 +4,9 @@
 #include <stdlib.h>
 #include <string.h>
 
-uint64_t kernel_word(const struct task *task, const uint64_t *read) {
-    int count = read_count(task);
-    uint64_t word = task->constant;
-    switch (task->kernel) {
+uint64_t word_by(uint64_t kernel, uint64_t constant, const uint64_t *read, int count) {
+    uint64_t word = constant;
+    switch (kernel) {
     case 0:
         return word;
     case 1:
@@ -18,12 +17,18 @@ uint64_t kernel_word(const struct task *task, const uint64_t *read) {
         return read[0] - read[1] + word;
     case 3:
         return mean(read[0], read[1], read[2], read[3]);
-    default:
-        word = read[0];
-        for (int r = 1; r < count; r++)
+    case 4:
+        word = 0;
+        for (int r = 0; r < count; r++)
             word = read[r] > word ? read[r] : word;
         return word;
+    default:
+        return 0;
     }
+}
+
+uint64_t kernel_word(const struct task *task, const uint64_t *read) {
+    return word_by((uint64_t)task->kernel, task->constant, read, read_count(task));
 }
 
 void loop_begin(struct loop *loop, const struct plan *plan) {

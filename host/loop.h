@@ -24,6 +24,10 @@ static inline uint64_t mean(uint64_t a, uint64_t b, uint64_t c, uint64_t d) {
     return down + (rest > 2 || (rest == 2 && down % 2 == 1));
 }
 
+/* The word of a kernel with this constant and so many reads; of a number that is no kernel, 0. A
+   kernel that wants more reads takes the words behind them. */
+uint64_t word_by(uint64_t kernel, uint64_t constant, const uint64_t *read, int count);
+
 /* The word of a task that has these reads. */
 uint64_t kernel_word(const struct task *task, const uint64_t *read);
 

@@ -29,16 +29,18 @@ static uint64_t unmet(const struct memory *memory, int item) {
     return memory->counts[FIRST_UNMET + item];
 }
 
-/* Whether every item's counts can stand: as many passes started as finished, or one more with a
-   pass left; and no more unmet waits than there are items. */
+/* Whether the counts of an item that has so many passes can stand: as many passes started as
+   finished, or one more with a pass left; and no more unmet waits than there are items. */
+static bool item_formed(const struct memory *memory, int item, uint64_t passes, int items) {
+    uint64_t s = started(memory, item), f = finished(memory, item);
+    return f <= passes && (s == f || (s == f + 1 && f < passes)) &&
+           unmet(memory, item) <= (uint64_t)items;
+}
+
 static bool counts_formed(const struct shape *shape, const struct memory *memory) {
-    for (int a = 0; a < shape->graph.items; a++) {
-        uint64_t s = started(memory, a), f = finished(memory, a), passes = passes_of(shape, a);
-        if (f > passes || !(s == f || (s == f + 1 && f < passes)))
+    for (int a = 0; a < shape->graph.items; a++)
+        if (!item_formed(memory, a, passes_of(shape, a), shape->graph.items))
             return false;
-        if (unmet(memory, a) > (uint64_t)shape->graph.items)
-            return false;
-    }
     return true;
 }
 
@@ -72,8 +74,9 @@ static uint64_t unmet_waits(const struct shape *shape, const struct memory *memo
     return count;
 }
 
-static uint64_t start_refusal(const struct shape *shape, const struct memory *memory, int item) {
-    if (finished(memory, item) == passes_of(shape, item))
+/* The item has so many passes. */
+static uint64_t start_refusal(const struct memory *memory, int item, uint64_t passes) {
+    if (finished(memory, item) == passes)
         return 14;
     if (started(memory, item) != finished(memory, item))
         return 15;
@@ -85,7 +88,7 @@ static uint64_t finish_refusal(const struct memory *memory, int item) {
 }
 
 bool is_free(enum call call, const struct shape *shape, const struct memory *memory, int item) {
-    return (call == START_CALL ? start_refusal(shape, memory, item)
+    return (call == START_CALL ? start_refusal(memory, item, passes_of(shape, item))
                                : finish_refusal(memory, item)) == 0;
 }
 
@@ -168,7 +171,7 @@ static uint64_t refusal_of(enum call call, const struct shape *shape, const stru
     if (number >= (uint64_t)(call == RESULT_CALL ? shape->plan.regions : shape->graph.items))
         return 13;
     if (call == START_CALL)
-        return start_refusal(shape, memory, (int)number);
+        return start_refusal(memory, (int)number, passes_of(shape, (int)number));
     if (call == FINISH_CALL)
         return finish_refusal(memory, (int)number);
     return complete(shape, memory) ? 0 : 18;
@@ -205,6 +208,162 @@ uint64_t model_play(const struct shape *shape, struct memory *memory, struct len
         answers[2 * k + 1] = answer.word;
     }
     return 0;
+}
+
+/* Adds a place to a row. */
+static void add_place(uint16_t *row, int place) {
+    row[row[MAX_ACCESSES]++] = (uint16_t)place;
+}
+
+/* Puts an item's number, its targets, which start where those of the item before end, and its
+   places; counts it as a source of each target. */
+static void put_tables(const struct graph *graph, uint16_t *tables, int a) {
+    const struct item *item = &graph->item[a];
+    int end = tables[FIRST_START + a];
+    tables[FIRST_CODE + a] = item_number(item);
+    for (int e = graph->first_from[a]; e < graph->first_from[a + 1]; e++) {
+        int to = graph->edge[e].to;
+        if (to != a) {
+            tables[FIRST_SOURCE + to]++;
+            tables[FIRST_TARGET + end++] = (uint16_t)to;
+        }
+    }
+    tables[FIRST_START + a + 1] = (uint16_t)end;
+    for (int t = 0; t < item->touches; t++) {
+        if (item->touch[t].read)
+            add_place(tables + FIRST_READ + ROW * a, item->touch[t].place);
+        if (item->touch[t].written)
+            add_place(tables + FIRST_WRITTEN + ROW * a, item->touch[t].place);
+    }
+}
+
+struct answer model_prepare(const struct shape *shape, size_t plan_length, uint16_t *tables,
+                            size_t tables_length) {
+    if (plan_length < PLAN_WORDS || tables_length < TABLES)
+        return (struct answer){11, 0};
+    if (!shape->formed)
+        return (struct answer){12, 0};
+    memset(tables, 0, TABLES * sizeof *tables);
+    tables[0] = (uint16_t)shape->graph.items;
+    for (int a = 0; a < shape->graph.items; a++)
+        put_tables(&shape->graph, tables, a);
+    return (struct answer){0, (uint64_t)shape->graph.items};
+}
+
+/* The passes of an item by its number in the tables. */
+static uint64_t passes_in(const struct memory *memory, const uint16_t *tables, int a) {
+    uint64_t passes = memory->plan[0], fewer = tables[FIRST_CODE + a] / 8192;
+    return passes > fewer ? passes - fewer : 0;
+}
+
+/* How many targets the tables say that an item has, none where they end before they start; and one
+   of them. */
+static int target_count(const uint16_t *tables, int a) {
+    int from = tables[FIRST_START + a], to = tables[FIRST_START + a + 1];
+    return to > from ? to - from : 0;
+}
+
+static int target_in(const uint16_t *tables, int a, int k) {
+    return tables[FIRST_TARGET + tables[FIRST_START + a] + k];
+}
+
+static bool row_formed(const uint16_t *row) {
+    if (row[MAX_ACCESSES] > MAX_ACCESSES)
+        return false;
+    for (int k = 0; k < row[MAX_ACCESSES]; k++)
+        if (row[k] >= PLACES)
+            return false;
+    return true;
+}
+
+/* Whether an item's sources and targets are fewer than the items, and its targets lie in their part
+   and are items. */
+static bool targets_formed(const uint16_t *tables, int a) {
+    int items = tables[0], count = target_count(tables, a);
+    if (tables[FIRST_SOURCE + a] >= items || count >= items ||
+        tables[FIRST_START + a + 1] > MAX_EDGES)
+        return false;
+    for (int k = 0; k < count; k++)
+        if (target_in(tables, a, k) >= items)
+            return false;
+    return true;
+}
+
+/* 12 and the refusals behind it, of an item that the tables have. */
+static uint64_t item_refusal(enum call call, const struct memory *memory, const uint16_t *tables,
+                             int a) {
+    uint64_t passes = passes_in(memory, tables, a);
+    if (memory->plan[0] > MAX_PASSES || !item_formed(memory, a, passes, tables[0]))
+        return 12;
+    if (call == START_PREPARED)
+        return row_formed(tables + FIRST_READ + ROW * a) ? start_refusal(memory, a, passes) : 12;
+    if (!row_formed(tables + FIRST_WRITTEN + ROW * a) || !targets_formed(tables, a))
+        return 12;
+    return finish_refusal(memory, a);
+}
+
+static uint64_t prepared_refusal(enum call call, const struct memory *memory,
+                                 const uint16_t *tables, struct all_lengths lengths,
+                                 uint64_t number) {
+    if (too_short(lengths.state) || lengths.tables < TABLES)
+        return 11;
+    if (call == FINISH_FREEING && lengths.freed < FREED)
+        return 11;
+    if (tables[0] > MAX_ITEMS)
+        return 12;
+    return number < tables[0] ? item_refusal(call, memory, tables, (int)number) : 13;
+}
+
+static uint64_t start_prepared(struct memory *memory, const uint16_t *tables, int a) {
+    const uint16_t *row = tables + FIRST_READ + ROW * a;
+    int code = tables[FIRST_CODE + a], count = row[MAX_ACCESSES];
+    const uint64_t *task = memory->plan + TASK_WORDS + WORDS_A_TASK * (code % 128);
+    uint64_t read[MAX_ACCESSES] = {0};
+    for (int k = 0; k < count; k++)
+        read[k] = memory->values[row[k]];
+    memory->counts[a]++;
+    return memory->values[FIRST_HELD + a] =
+               code / 128 % 4 == TASK ? word_by(task[1], task[2], read, count) : read[0];
+}
+
+/* Takes one off the number of each target, a 0 staying 0, and lists those that become 0. */
+static void lower_targets(struct memory *memory, const uint16_t *tables, int a, uint16_t *freed) {
+    for (int k = 0; k < target_count(tables, a); k++) {
+        int b = target_in(tables, a, k);
+        if (unmet(memory, b) == 1)
+            freed[++freed[0]] = (uint16_t)b;
+        if (unmet(memory, b) > 0)
+            memory->counts[FIRST_UNMET + b]--;
+    }
+}
+
+static uint64_t finish_prepared(struct memory *memory, const uint16_t *tables, int a,
+                                uint16_t *freed) {
+    const uint16_t *row = tables + FIRST_WRITTEN + ROW * a;
+    uint64_t word = memory->values[FIRST_HELD + a], sources = tables[FIRST_SOURCE + a];
+    bool again = finished(memory, a) + 1 < passes_in(memory, tables, a);
+    freed[0] = 0;
+    lower_targets(memory, tables, a, freed);
+    if (again && sources == 0)
+        freed[++freed[0]] = (uint16_t)a;
+    memory->counts[FIRST_UNMET + a] = again ? sources : 0;
+    memory->counts[MAX_ITEMS + a]++;
+    for (int k = 0; k < row[MAX_ACCESSES]; k++)
+        memory->values[row[k]] = word;
+    return word;
+}
+
+struct answer model_prepared(enum call call, struct memory *memory, struct prepared *prepared,
+                             struct all_lengths lengths, uint64_t number) {
+    uint16_t unlisted[FREED];
+    const uint16_t *tables = prepared->tables;
+    uint64_t refusal = prepared_refusal(call, memory, tables, lengths, number);
+    if (refusal != 0)
+        return (struct answer){refusal, 0};
+    if (call == START_PREPARED)
+        return (struct answer){0, start_prepared(memory, tables, (int)number)};
+    uint16_t *freed = call == FINISH_FREEING ? prepared->freed : unlisted;
+    return (struct answer){0, finish_prepared(memory, tables, (int)number, freed)};
 }
 
 struct answer model_ready(const struct shape *shape, const struct memory *memory,

@@ -17,6 +17,22 @@ enum {
     GUARD = 32
 };
 
+/* Where the parts of prepared tables start, behind the number of items: the items' numbers; how
+   many others have an edge to each; where the targets of each start; the targets; a row of places
+   for each item, first those that it reads, then those that it writes. The last number of a row is
+   how many they are. */
+enum {
+    FIRST_CODE = 1,
+    FIRST_SOURCE = FIRST_CODE + MAX_ITEMS,
+    FIRST_START = FIRST_SOURCE + MAX_ITEMS,
+    FIRST_TARGET = FIRST_START + MAX_ITEMS + 1,
+    FIRST_READ = FIRST_TARGET + MAX_EDGES,
+    ROW = MAX_ACCESSES + 1,
+    FIRST_WRITTEN = FIRST_READ + ROW * MAX_ITEMS,
+    TABLES = FIRST_WRITTEN + ROW * MAX_ITEMS,
+    FREED = 1 + MAX_ITEMS
+};
+
 /* The slices of a call, each between guards that nobody may change. */
 struct memory {
     uint64_t plan_front[GUARD], plan[PLAN_WORDS], plan_behind[GUARD];
@@ -24,9 +40,21 @@ struct memory {
     uint64_t values_front[GUARD], values[VALUES], values_behind[GUARD];
 };
 
+/* What a call by tables is lent besides, in the same way. */
+struct prepared {
+    uint16_t tables_front[GUARD], tables[TABLES], tables_behind[GUARD];
+    uint16_t freed_front[GUARD], freed[FREED], freed_behind[GUARD];
+};
+
 /* The lengths that a call says. */
 struct lengths {
     size_t plan, counts, values;
+};
+
+/* The same of a call by tables. */
+struct all_lengths {
+    struct lengths state;
+    size_t tables, freed;
 };
 
 /* What the words of a plan are: not in form, or a plan with its graph. */
@@ -41,7 +69,18 @@ struct answer {
     uint64_t refusal, word;
 };
 
-enum call { OPEN_CALL, START_CALL, FINISH_CALL, RESULT_CALL, CALLS };
+/* The ordinary calls, and behind them those by tables. */
+enum call {
+    OPEN_CALL,
+    START_CALL,
+    FINISH_CALL,
+    RESULT_CALL,
+    CALLS,
+    START_PREPARED = CALLS,
+    FINISH_PREPARED,
+    FINISH_FREEING,
+    ALL_CALLS
+};
 
 /* Finds what the plan's words are. */
 void make_shape(const uint64_t *words, struct shape *shape);
@@ -55,6 +94,14 @@ struct answer model_call(enum call call, const struct shape *shape, struct memor
 uint64_t model_play(const struct shape *shape, struct memory *memory, struct lengths lengths,
                     const uint64_t *calls, size_t number, uint64_t *answers,
                     size_t answers_length);
+
+/* Puts the tables of a plan of this shape into the slice. The word is the number of items. */
+struct answer model_prepare(const struct shape *shape, size_t plan_length, uint16_t *tables,
+                            size_t tables_length);
+
+/* Makes a call by tables on the memory, whatever plan, tables and state hold. */
+struct answer model_prepared(enum call call, struct memory *memory, struct prepared *prepared,
+                             struct all_lengths lengths, uint64_t number);
 
 /* Puts the numbers of the items whose start is accepted into `items`, rising. The word is how many
    they are. */

@@ -42,11 +42,15 @@ static bool take_items(struct play *play) {
 bool play_begin(struct play *play, const char *file, struct rng *rng) {
     static char text[TEXT_ROOM];
     size_t length;
-    memset(play, 0, sizeof *play);
     if (file == NULL || strcmp(file, "-") == 0)
         length = random_text(play, rng, text);
     else if (!text_of_file(file, text, &length))
         return false;
+    return play_text(play, text, length);
+}
+
+bool play_text(struct play *play, const char *text, size_t length) {
+    memset(play, 0, sizeof *play);
     taskiter_reading reading =
         taskiter_read((const uint8_t *)text, length, play->words, TASKITER_PLAN_WORDS);
     struct reading expected = read_text((const uint8_t *)text, length, &play->plan);
@@ -64,15 +68,6 @@ bool play_begin(struct play *play, const char *file, struct rng *rng) {
 
 int play_rank(const struct play *play, int item) {
     return TASKITER_ITEM_RANK(play->item[item]);
-}
-
-uint64_t play_ready(struct play *play) {
-    taskiter_number answer = taskiter_ready(play->words, TASKITER_PLAN_WORDS, play->counts,
-                                            TASKITER_COUNTS, play->values, TASKITER_VALUES,
-                                            play->ready, TASKITER_MAX_ITEMS);
-    play->readies = (int)answer.number;
-    play->lists++;
-    return answer.refusal;
 }
 
 /* Counts a step; one that is accepted has the word of its pass in the unrolled loop. */
@@ -97,6 +92,33 @@ uint64_t play_finish(struct play *play, int item) {
     taskiter_answer answer =
         taskiter_finish(play->words, TASKITER_PLAN_WORDS, play->counts, TASKITER_COUNTS,
                         play->values, TASKITER_VALUES, (uint64_t)item);
+    return count_step(play, item, &play->finished[item], answer);
+}
+
+bool play_prepare(struct play *play) {
+    taskiter_number prepared = taskiter_prepare(play->words, TASKITER_PLAN_WORDS, play->tables,
+                                                TASKITER_PREPARED);
+    taskiter_number ready = taskiter_ready(play->words, TASKITER_PLAN_WORDS, play->counts,
+                                           TASKITER_COUNTS, play->values, TASKITER_VALUES,
+                                           play->ready, TASKITER_MAX_ITEMS);
+    play->readies = (int)ready.number;
+    return prepared.refusal == 0 && ready.refusal == 0;
+}
+
+uint64_t play_start_prepared(struct play *play, int item) {
+    taskiter_answer answer = taskiter_start_prepared(
+        play->words, TASKITER_PLAN_WORDS, play->tables, TASKITER_PREPARED, play->counts,
+        TASKITER_COUNTS, play->values, TASKITER_VALUES, (uint64_t)item);
+    return count_step(play, item, &play->started[item], answer);
+}
+
+uint64_t play_finish_prepared(struct play *play, int item) {
+    uint16_t freed[TASKITER_FREED] = {0};
+    taskiter_answer answer = taskiter_finish_freeing(
+        play->words, TASKITER_PLAN_WORDS, play->tables, TASKITER_PREPARED, play->counts,
+        TASKITER_COUNTS, play->values, TASKITER_VALUES, freed, TASKITER_FREED, (uint64_t)item);
+    for (int k = 1; k <= freed[0] && play->readies < TASKITER_MAX_ITEMS; k++)
+        play->ready[play->readies++] = freed[k];
     return count_step(play, item, &play->finished[item], answer);
 }
 

@@ -322,14 +322,13 @@ void *room(size_t size) {
     return block;
 }
 
-/* Slices of exactly these lengths, which hold nothing yet. */
-static struct slices bare_slices(struct lengths lengths) {
+struct slices bare_slices(struct lengths lengths) {
     return (struct slices){room(lengths.plan * sizeof(uint64_t)),
                            room(lengths.counts * sizeof(uint64_t)),
                            room(lengths.values * sizeof(uint64_t))};
 }
 
-static void free_slices(struct slices slices) {
+void free_slices(struct slices slices) {
     free(slices.plan);
     free(slices.counts);
     free(slices.values);

@@ -6,8 +6,6 @@
 #include <stdlib.h>
 #include <string.h>
 
-#include "../include/taskiter.h"
-
 _Static_assert(PLAN_WORDS == TASKITER_PLAN_WORDS && COUNTS == TASKITER_COUNTS &&
                    VALUES == TASKITER_VALUES,
                "sizes of docs/LAYOUT.md");
@@ -16,15 +14,18 @@ _Static_assert(MAX_ITEMS == TASKITER_FIRST_FINISHED && FIRST_UNMET == TASKITER_F
 _Static_assert(ITEM_ROOM == TASKITER_MAX_ITEMS && EDGE_ROOM == TASKITER_EDGE_NUMBERS &&
                    TEXT_BYTES == TASKITER_TEXT_BYTES,
                "sizes of docs/LAYOUT.md");
+_Static_assert(TABLES == TASKITER_PREPARED && FREED == TASKITER_FREED, "sizes of docs/LAYOUT.md");
 
 const struct lengths least = {PLAN_WORDS, COUNTS, VALUES};
 
-static const char *const call_names[CALLS] = {"open", "start", "finish", "result"};
+static const char *const call_names[ALL_CALLS] = {
+    "open", "start", "finish", "result", "prepared start", "prepared finish", "freeing finish"};
 
 static const char *const change_names[CHANGES] = {"nothing", "an answer", "a word", "an edge",
                                                   "a line",  "a reply",   "a byte", "a total",
                                                   "an item", "a mean",    "a count",
-                                                  "a ready item", "a number of waits"};
+                                                  "a ready item", "a number of waits",
+                                                  "a number of tables", "a freed item"};
 
 void differ(const struct trial *trial, const char *form, ...) {
     va_list rest;
@@ -85,12 +86,11 @@ static void change_edge(struct trial *trial, uint32_t *edges, uint64_t number) {
     *at = (uint32_t)flipped(control, *at, 32);
 }
 
-/* Changes a bit of one number of a list of items, where it has some. */
-static void change_item(struct trial *trial, enum change change, uint16_t *items, uint64_t number) {
+void change_listed(struct trial *trial, enum change change, uint16_t *numbers, uint64_t count) {
     struct control *control = trial->control;
-    if (number == 0 || !makes_change(trial, change))
+    if (count == 0 || !makes_change(trial, change))
         return;
-    uint16_t *at = &items[draw_below(&control->rng, (int)number)];
+    uint16_t *at = &numbers[draw_below(&control->rng, (int)count)];
     *at = (uint16_t)flipped(control, *at, 16);
 }
 
@@ -196,9 +196,8 @@ void put_word(struct trial *trial, int word, uint64_t value) {
     make_shape(trial->lent.plan, &trial->shape);
 }
 
-/* Compares two stretches of memory and prints the first byte that differs. */
-static void compare_bytes(const struct trial *trial, const char *what, const void *expected,
-                          const void *got, size_t length) {
+void compare_bytes(const struct trial *trial, const char *what, const void *expected,
+                   const void *got, size_t length) {
     const uint8_t *e = expected, *g = got;
     if (memcmp(e, g, length) == 0)
         return;
@@ -208,7 +207,7 @@ static void compare_bytes(const struct trial *trial, const char *what, const voi
     differ(trial, "byte %zu of %s is %d, expected %d", k, what, g[k], e[k]);
 }
 
-static void compare_memory(struct trial *trial, const char *call) {
+void compare_memory(struct trial *trial, const char *call) {
     char what[64];
     change_state(trial);
     snprintf(what, sizeof what, "the memory after %s", call);
@@ -308,14 +307,14 @@ struct reading try_read(struct trial *trial, const uint8_t *text, size_t length,
     return expected;
 }
 
-static void compare_number(struct trial *trial, const char *call, uint64_t refusal, uint64_t number,
-                           taskiter_number got) {
-    count_answer(trial, refusal);
-    if (got.refusal != refusal || got.number != number)
+void compare_number(struct trial *trial, const char *call, struct answer expected,
+                    taskiter_number got) {
+    count_answer(trial, expected.refusal);
+    if (got.refusal != expected.refusal || got.number != expected.word)
         differ(trial,
                "%s: the answer is refusal %" PRIu64 ", number %" PRIu64 ", expected %" PRIu64
                " and %" PRIu64,
-               call, got.refusal, got.number, refusal, number);
+               call, got.refusal, got.number, expected.refusal, expected.word);
     compare_memory(trial, call);
 }
 
@@ -330,31 +329,31 @@ struct written try_write(struct trial *trial, size_t plan_length, size_t text_le
     uint8_t *text = text_length > 0 || trial->calls % 2 == 0 ? lent + from : NULL;
     taskiter_number got = taskiter_write(trial->lent.plan, plan_length, text, text_length);
     change_byte(trial, lent + from, got.number);
-    compare_number(trial, "writing", answer.refusal, answer.word, got);
+    compare_number(trial, "writing", answer, got);
     compare_bytes(trial, "the written text", expected, lent, sizeof lent);
     return (struct written){answer.refusal, (size_t)answer.word, lent + from};
 }
 
-static uint64_t graph_refusal(const struct trial *trial, size_t plan_length, size_t length,
-                              size_t room) {
-    return plan_length < PLAN_WORDS || length < room ? 11 : trial->shape.formed ? 0 : 12;
+/* The answer of a call that lists so many things of the plan in a slice with this room. */
+static struct answer graph_answer(const struct trial *trial, size_t plan_length, size_t length,
+                                  size_t room, int number) {
+    if (plan_length < PLAN_WORDS || length < room)
+        return (struct answer){11, 0};
+    return trial->shape.formed ? (struct answer){0, (uint64_t)number} : (struct answer){12, 0};
 }
 
 void try_items(struct trial *trial, size_t plan_length, size_t items_length) {
     static uint16_t lent[GUARD + ITEM_ROOM + GUARD], expected[GUARD + ITEM_ROOM + GUARD];
     const struct graph *graph = &trial->shape.graph;
-    uint64_t refusal = graph_refusal(trial, plan_length, items_length, ITEM_ROOM);
+    struct answer answer =
+        graph_answer(trial, plan_length, items_length, ITEM_ROOM, graph->items);
     memset(lent, (int)trial->calls, sizeof lent);
     memcpy(expected, lent, sizeof lent);
-    for (int a = 0; refusal == 0 && a < graph->items; a++) {
-        const struct item *item = &graph->item[a];
-        expected[GUARD + a] =
-            (uint16_t)(item->fewer * 8192 + item->rank * 512 + (int)item->kind * 128 +
-                       (item->kind == TASK ? item->task : item->region));
-    }
+    for (int a = 0; answer.refusal == 0 && a < graph->items; a++)
+        expected[GUARD + a] = item_number(&graph->item[a]);
     taskiter_number got = taskiter_items(trial->lent.plan, plan_length, lent + GUARD, items_length);
-    change_item(trial, CHANGED_ITEM, lent + GUARD, got.number);
-    compare_number(trial, "items", refusal, refusal == 0 ? (uint64_t)graph->items : 0, got);
+    change_listed(trial, CHANGED_ITEM, lent + GUARD, got.number);
+    compare_number(trial, "items", answer, got);
     compare_bytes(trial, "the items", expected, lent, sizeof lent);
 }
 
@@ -368,8 +367,8 @@ struct answer try_ready(struct trial *trial, struct lengths l, size_t items_leng
     taskiter_number got =
         taskiter_ready(trial->lent.plan, l.plan, trial->lent.counts, l.counts, trial->lent.values,
                        l.values, items_length > 0 ? lent + GUARD : NULL, items_length);
-    change_item(trial, CHANGED_READY, lent + GUARD, got.number);
-    compare_number(trial, "ready", answer.refusal, answer.word, got);
+    change_listed(trial, CHANGED_READY, lent + GUARD, got.number);
+    compare_number(trial, "ready", answer, got);
     compare_bytes(trial, "the ready items", expected, lent, sizeof lent);
     if (listed != NULL)
         memcpy(listed, lent + GUARD, (size_t)answer.word * sizeof *listed);
@@ -379,17 +378,18 @@ struct answer try_ready(struct trial *trial, struct lengths l, size_t items_leng
 void try_edges(struct trial *trial, size_t plan_length, size_t edges_length) {
     static uint32_t lent[GUARD + EDGE_ROOM + GUARD], expected[GUARD + EDGE_ROOM + GUARD];
     const struct graph *graph = &trial->shape.graph;
-    uint64_t refusal = graph_refusal(trial, plan_length, edges_length, EDGE_ROOM);
+    struct answer answer =
+        graph_answer(trial, plan_length, edges_length, EDGE_ROOM, graph->edges);
     memset(lent, (int)trial->calls, sizeof lent);
     memcpy(expected, lent, sizeof lent);
-    for (int e = 0; refusal == 0 && e < graph->edges; e++) {
+    for (int e = 0; answer.refusal == 0 && e < graph->edges; e++) {
         expected[GUARD + 3 * e] = (uint32_t)graph->edge[e].from;
         expected[GUARD + 3 * e + 1] = (uint32_t)graph->edge[e].to;
         expected[GUARD + 3 * e + 2] = (uint32_t)graph->edge[e].distance;
     }
     taskiter_number got = taskiter_edges(trial->lent.plan, plan_length, lent + GUARD, edges_length);
     change_edge(trial, lent + GUARD, got.number);
-    compare_number(trial, "edges", refusal, refusal == 0 ? (uint64_t)graph->edges : 0, got);
+    compare_number(trial, "edges", answer, got);
     compare_bytes(trial, "the edges", expected, lent, sizeof lent);
 }
 
@@ -398,5 +398,5 @@ void try_total(struct trial *trial, size_t plan_length) {
     taskiter_number got = taskiter_total(trial->lent.plan, plan_length);
     if (got.refusal == 0 && makes_change(trial, CHANGED_TOTAL))
         got.number = flipped(trial->control, got.number, 64);
-    compare_number(trial, "total", answer.refusal, answer.word, got);
+    compare_number(trial, "total", answer, got);
 }

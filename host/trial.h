@@ -4,6 +4,7 @@
 #ifndef HOST_TRIAL_H
 #define HOST_TRIAL_H
 
+#include "../include/taskiter.h"
 #include "draw.h"
 #include "model.h"
 #include "reading.h"
@@ -14,7 +15,8 @@ enum { LAST_REFUSAL = 19, ITEM_ROOM = MAX_ITEMS, EDGE_ROOM = 3 * MAX_EDGES, LIST
 /* What a control run changes once, between the runtime and the comparison: an answer, a word of the
    lent state after a call, an edge, the line that reading answers, a word of a list's answers, a
    byte of a written text, a total of steps, an item's number, a mean that is known, a count above
-   2^32, one of the items that are ready, or a number of unmet waits. */
+   2^32, one of the items that are ready, a number of unmet waits, a number of prepared tables, or
+   one of a list of the items that a finish made ready. */
 enum change {
     NO_CHANGE,
     CHANGED_ANSWER,
@@ -29,6 +31,8 @@ enum change {
     CHANGED_COUNT,
     CHANGED_READY,
     CHANGED_WAITS,
+    CHANGED_PREPARED,
+    CHANGED_FREED,
     CHANGES
 };
 
@@ -85,6 +89,20 @@ extern const struct lengths least;
 /* Prints a difference, in the form of printf, and ends the program. */
 void differ(const struct trial *trial, const char *form, ...)
     __attribute__((noreturn, format(printf, 2, 3)));
+
+/* Compares two stretches of memory. */
+void compare_bytes(const struct trial *trial, const char *what, const void *expected,
+                   const void *got, size_t length);
+
+/* Compares the memories after a call; in a control run a word may be changed first. */
+void compare_memory(struct trial *trial, const char *call);
+
+/* Compares the answer of a call that gives a number, and the memories after it. */
+void compare_number(struct trial *trial, const char *call, struct answer expected,
+                    taskiter_number got);
+
+/* In a control run that makes this change, changes a bit of one of so many numbers. */
+void change_listed(struct trial *trial, enum change change, uint16_t *numbers, uint64_t count);
 
 /* Fills all of the memory at random. */
 void fill_memory(struct trial *trial, struct rng *rng);

@@ -1,11 +1,11 @@
 /* A host with workers: workers [NUMBER [FILE|- [SEED]]], 16 if no number is given. An item runs on
    a worker of its rank, one at a time, and finishes after a random number of ticks; so many run at
-   once, and finishes come in any order. A worker that is idle takes an item of its ranks from the
-   list of those that are ready. The list is asked for anew after a finish; a start takes its own
-   item off it and no other. So no start is refused. The calls come one after another. Prints the
-   items, the steps taken, how often the list was asked for, the most items that ran at once, the
-   ticks and the values. Exit status 0 where no step was refused, and each word and value is the
-   unrolled loop's. */
+   once, and finishes come in any order. The plan is prepared, and steps go by the tables. A worker
+   that is idle takes an item of its ranks from the list of those that are ready. The list is asked
+   for once, after the opening; each finish adds the items that it makes ready. So no start is
+   refused. The calls come one after another. Prints the items, the steps taken, the most items that
+   ran at once, the ticks and the values. Exit status 0 where no step was refused, and each word and
+   value is the unrolled loop's. */
 #include <inttypes.h>
 #include <stdio.h>
 #include <stdlib.h>
@@ -23,9 +23,6 @@ static struct play play;
 static struct rng rng;
 static struct worker worker[MOST_WORKERS];
 static int workers, running, most_running;
-
-/* Whether the list of ready items is that of a state before the last finish. */
-static bool stale = true;
 
 /* Whether a worker serves a rank: with fewer workers than ranks one serves several, with more
    several serve one. */
@@ -47,13 +44,10 @@ static int take_item(int w) {
 
 /* Lets a worker start an item that is ready, where there is one of its ranks. */
 static void seek_item(int w) {
-    if (stale)
-        play.differ += play_ready(&play) != 0;
-    stale = false;
     int item = take_item(w);
     if (item == IDLE)
         return;
-    play.differ += play_start(&play, item) != 0;
+    play.differ += play_start_prepared(&play, item) != 0;
     worker[w] = (struct worker){item, 1 + draw_below(&rng, MOST_TICKS)};
     most_running = ++running > most_running ? running : most_running;
 }
@@ -64,8 +58,7 @@ static void work(int w) {
     if (worker[w].item == IDLE) {
         seek_item(w);
     } else if (--worker[w].ticks == 0) {
-        play.differ += play_finish(&play, worker[w].item) != 0;
-        stale = true;
+        play.differ += play_finish_prepared(&play, worker[w].item) != 0;
         worker[w].item = IDLE;
         running--;
     }
@@ -93,12 +86,12 @@ int main(int argc, char **argv) {
     workers = argc > 1 ? atoi(argv[1]) : DEFAULT_WORKERS;
     rng = rng_of(argc > 3 ? strtoull(argv[3], NULL, 10) : 1, 0);
     if (workers < 1 || workers > MOST_WORKERS ||
-        !play_begin(&play, argc > 2 ? argv[2] : NULL, &rng))
+        !play_begin(&play, argc > 2 ? argv[2] : NULL, &rng) || !play_prepare(&play))
         return 1;
     for (int w = 0; w < workers; w++)
         worker[w].item = IDLE;
     long ticks = run_ticks();
-    printf("items %d\nsteps %" PRIu64 "\nlists %" PRIu64 "\nat once %d\nticks %ld\n", play.items,
-           play.steps, play.lists, most_running, ticks);
+    printf("items %d\nsteps %" PRIu64 "\nat once %d\nticks %ld\n", play.items, play.steps,
+           most_running, ticks);
     return play_end(&play);
 }

@@ -7,7 +7,10 @@
    calls taskiter_read once for each plan, taskiter_open once for each run, and then taskiter_start
    and taskiter_finish in whatever order it likes, pass after pass, until every item has finished
    its passes; then taskiter_result gives each region's number. Whatever the order of the calls,
-   every word answered is the one of the loop unrolled and run in order.
+   every word answered is the one of the loop unrolled and run in order. A host that takes many
+   steps of one plan prepares it once, by taskiter_prepare, and starts and finishes by the tables:
+   such a step looks at the words of its own item, and at no other item's but the numbers that a
+   finish lowers.
 
    An item has the passes of the plan, with one exception. A transfer brings a task's word to
    another rank, and serves the reads there that take that word. It is wrapped when each of them
@@ -31,11 +34,14 @@
    With these kept every call ends and does nothing undefined, whatever the slices hold. For the
    words to be those of the unrolled loop, besides:
      - from an accepted opening of the plan on, plan and state come to a call as the call before
-       left them.
-   Words that reading leaves for no text, and counts out of form (docs/LAYOUT.md), are refused with
-   12. A state that was never opened, or belongs to another plan, may pass this test, as one of
-   zeros does. So may one that an earlier version left: it has no numbers of unmet waits, and is
-   judged by the words that stand in their place (docs/HOST.md, "Numbers of unmet waits").
+       left them;
+     - the tables are those that taskiter_prepare made of this plan.
+   The ordinary calls, which are all but the steps by tables, refuse words that reading leaves for
+   no text, and counts out of form (docs/LAYOUT.md), with 12. A state that was never opened, or
+   belongs to another plan, may pass this test, as one of zeros does. So may one that an earlier
+   version left: it has no numbers of unmet waits, and is judged by the words that stand in their
+   place (docs/HOST.md, "Numbers of unmet waits"). A step by tables tests less: only the words that
+   it uses (docs/HOST.md, "Prepared plans").
 
    An answer carries a refusal number. 0 says that the call is accepted, and only then is the word
    to be used. A refused call changes nothing, with one exception: where taskiter_read refuses a
@@ -43,15 +49,16 @@
 
       1  a line not in form, or without its line feed  11  a slice too short
       2  no `loop` first, or a record out of place     12  the plan is not one that reading leaves,
-      3  a number out of its limits                        or the counts of an item are out of form
-      4  `begin` while a task is open                  13  item or region number too large
-      5  an access or `end` with no task open          14  start: no pass left to finish
-      6  a region named twice                          15  start: the item is running
-      7  the text ends with a task open                16  start: the item has unmet waits
-      8  the text ends with no task                    17  finish: the item is not running
-      9  wrong number of reads for the kernel          18  result: the loop is not complete
-     10  too long, too many tasks, accesses or         19  write: the text slice is too short for
-         transfers                                         this text
+      3  a number out of its limits                        or the counts of an item are out of form;
+      4  `begin` while a task is open                      by tables: a word is out of its range
+      5  an access or `end` with no task open          13  item or region number too large
+      6  a region named twice                          14  start: no pass left to finish
+      7  the text ends with a task open                15  start: the item is running
+      8  the text ends with no task                    16  start: the item has unmet waits
+      9  wrong number of reads for the kernel          17  finish: the item is not running
+     10  too long, too many tasks, accesses or         18  result: the loop is not complete
+         transfers                                     19  write: the text slice is too short for
+                                                           this text
 
    docs/HOST.md says what a host does about each, docs/LAYOUT.md what stands where in the slices. */
 #ifndef TASKITER_H
@@ -68,7 +75,7 @@ extern "C" {
    names. So a host asks once, before its other calls, whether taskiter_version answers
    TASKITER_VERSION: then the runtime that it is linked with has the version of the header that it
    was compiled with. CHANGELOG.md says what each version changes. */
-#define TASKITER_VERSION 5
+#define TASKITER_VERSION 6
 uint64_t taskiter_version(void);
 
 /* A text has at most so many bytes. It has no NUL at its end: one that is counted is a line not in
@@ -102,6 +109,11 @@ uint64_t taskiter_version(void);
 /* The least length of a slice for the edges, three numbers each: no plan has more than 4,224.
    50,688 bytes. */
 #define TASKITER_EDGE_NUMBERS 12672
+
+/* The least lengths of the slices for prepared plans: the tables, and the list of the items that a
+   finish made ready, which begins with their number. */
+#define TASKITER_PREPARED 17666 /* uint16_t: 35,332 bytes */
+#define TASKITER_FREED 641      /* uint16_t: 1,282 bytes */
 
 /* Refusal 0: the text is accepted, and line is 0. Else the refusal (1 to 11) and the line that it
    is for: the first line is 1; a refusal at the end of the text is for one line past the last; 0
@@ -238,6 +250,66 @@ uint64_t taskiter_play(const uint64_t *plan, size_t plan_length, TASKITER_COUNT_
                        const uint64_t *calls, size_t calls_length, uint64_t *answers,
                        size_t answers_length);
 
+/* Prepared plans. Every call above looks at the whole plan anew. That costs nearly all of a start,
+   and much of a finish. Tables hold what steps need of the plan's graph. They are made once for
+   each plan, and a step by tables looks at the words of its own item, and at no other item's but
+   the numbers that a finish lowers.
+
+   taskiter_prepare makes the tables of the plan, and answers the number of items. It writes all of
+   the first TASKITER_PREPARED numbers of the slice; what lies behind them is left as it is.
+   docs/LAYOUT.md says what stands where. Refused for 11, where plan or tables are too short, or for
+   12, where the plan is not one that reading leaves; then the number is 0 and nothing is changed.
+
+   Tables belong to their plan and serve any number of its states. They do not depend on a state,
+   and hold no pointers: they may be stored, copied and lent from another place. No call but
+   taskiter_prepare changes them. */
+taskiter_number taskiter_prepare(const uint64_t *plan, size_t plan_length, uint16_t *tables,
+                                 size_t tables_length);
+
+/* Start and finish as above, by tables. From an opening on, with the tables of the plan, they
+   answer and leave just what taskiter_start and taskiter_finish do. Either kind may be called at
+   any time: they may be mixed as the host likes. Opening, results and the ready items have no other
+   call.
+
+   The host keeps plan, tables and state as the call before left them: no word of the plan changes
+   after its preparing, the tables are that plan's, and the state is one of its states from an
+   opening on. Where a host does not know that, it uses the ordinary calls.
+
+   Refused, in this order: 11 where a slice is too short; 12 where a word that the step uses is out
+   of its range; 13 where the item is not below the number of items, tables[0]; then a start for 14,
+   15 or 16, a finish for 17. Refused: the word is 0 and nothing is changed. 12 finds a number of
+   items above 640. Of an item below it 12 finds more than 1,000,000,000,000 passes, the item's own
+   counts or number of unmet waits out of form, and in the row of places that the step uses more
+   than 8 places or one that is no place. A finish finds besides a target or a number of targets or
+   sources that is too large, or targets that end past 4,224. So every call is safe, whatever the
+   slices hold. But 12 does not find a plan that reading leaves for no text, words of other items,
+   or words in their ranges that are not this plan's. Then the step goes by what stands there, and
+   its word need not be the loop's. */
+taskiter_answer taskiter_start_prepared(const uint64_t *plan, size_t plan_length,
+                                        const uint16_t *tables, size_t tables_length,
+                                        TASKITER_COUNT_TYPE *counts, size_t counts_length,
+                                        uint64_t *values, size_t values_length, uint64_t item);
+taskiter_answer taskiter_finish_prepared(const uint64_t *plan, size_t plan_length,
+                                         const uint16_t *tables, size_t tables_length,
+                                         TASKITER_COUNT_TYPE *counts, size_t counts_length,
+                                         uint64_t *values, size_t values_length, uint64_t item);
+
+/* As taskiter_finish_prepared, and lists the items that the finish made ready: freed[0] is how many
+   they are, freed[1] and on are they. Use freed only where the refusal is 0. From an opening on
+   these are exactly the items whose start was refused before the finish and is accepted after it,
+   each once: those of the items that wait for this one which are now ready, rising; then the item
+   itself where it has another pass and no other item has an edge to it. So a host asks
+   taskiter_ready once, after the opening, and adds these to its list of ready items after each
+   finish. The list stays right only if every finish is this call and each item that is started is
+   taken off it; then the host need not ask again. What lies behind these in freed is left as it is.
+   Refused for 11 also where freed is shorter than TASKITER_FREED; where the call is refused freed
+   is not changed. */
+taskiter_answer taskiter_finish_freeing(const uint64_t *plan, size_t plan_length,
+                                        const uint16_t *tables, size_t tables_length,
+                                        TASKITER_COUNT_TYPE *counts, size_t counts_length,
+                                        uint64_t *values, size_t values_length, uint16_t *freed,
+                                        size_t freed_length, uint64_t item);
+
 /* In C (NULL, 0) is a slice of no elements. The runtime is proved for slices that point somewhere.
    So each call with slices goes through an inline function. It lends an empty text, list or answers
    a byte of its own, and refuses any other NULL with 11: a slice that needs elements, or one that
@@ -350,6 +422,50 @@ static inline uint64_t taskiter_play_lent(const uint64_t *plan, size_t plan_leng
                          answers == NULL ? &none[1] : answers, answers_length);
 }
 
+static inline taskiter_number taskiter_prepare_lent(const uint64_t *plan, size_t plan_length,
+                                                    uint16_t *tables, size_t tables_length) {
+    taskiter_number refused = {11, 0};
+    if (plan == NULL || tables == NULL)
+        return refused;
+    return taskiter_prepare(plan, plan_length, tables, tables_length);
+}
+
+static inline taskiter_answer
+taskiter_start_prepared_lent(const uint64_t *plan, size_t plan_length, const uint16_t *tables,
+                             size_t tables_length, TASKITER_COUNT_TYPE *counts,
+                             size_t counts_length, uint64_t *values, size_t values_length,
+                             uint64_t item) {
+    taskiter_answer refused = {11, 0};
+    if (plan == NULL || tables == NULL || counts == NULL || values == NULL)
+        return refused;
+    return taskiter_start_prepared(plan, plan_length, tables, tables_length, counts, counts_length,
+                                   values, values_length, item);
+}
+
+static inline taskiter_answer
+taskiter_finish_prepared_lent(const uint64_t *plan, size_t plan_length, const uint16_t *tables,
+                              size_t tables_length, TASKITER_COUNT_TYPE *counts,
+                              size_t counts_length, uint64_t *values, size_t values_length,
+                              uint64_t item) {
+    taskiter_answer refused = {11, 0};
+    if (plan == NULL || tables == NULL || counts == NULL || values == NULL)
+        return refused;
+    return taskiter_finish_prepared(plan, plan_length, tables, tables_length, counts,
+                                    counts_length, values, values_length, item);
+}
+
+static inline taskiter_answer
+taskiter_finish_freeing_lent(const uint64_t *plan, size_t plan_length, const uint16_t *tables,
+                             size_t tables_length, TASKITER_COUNT_TYPE *counts,
+                             size_t counts_length, uint64_t *values, size_t values_length,
+                             uint16_t *freed, size_t freed_length, uint64_t item) {
+    taskiter_answer refused = {11, 0};
+    if (plan == NULL || tables == NULL || counts == NULL || values == NULL || freed == NULL)
+        return refused;
+    return taskiter_finish_freeing(plan, plan_length, tables, tables_length, counts, counts_length,
+                                   values, values_length, freed, freed_length, item);
+}
+
 #define taskiter_read(...) taskiter_read_lent(__VA_ARGS__)
 #define taskiter_write(...) taskiter_write_lent(__VA_ARGS__)
 #define taskiter_items(...) taskiter_items_lent(__VA_ARGS__)
@@ -361,6 +477,10 @@ static inline uint64_t taskiter_play_lent(const uint64_t *plan, size_t plan_leng
 #define taskiter_result(...) taskiter_result_lent(__VA_ARGS__)
 #define taskiter_ready(...) taskiter_ready_lent(__VA_ARGS__)
 #define taskiter_play(...) taskiter_play_lent(__VA_ARGS__)
+#define taskiter_prepare(...) taskiter_prepare_lent(__VA_ARGS__)
+#define taskiter_start_prepared(...) taskiter_start_prepared_lent(__VA_ARGS__)
+#define taskiter_finish_prepared(...) taskiter_finish_prepared_lent(__VA_ARGS__)
+#define taskiter_finish_freeing(...) taskiter_finish_freeing_lent(__VA_ARGS__)
 
 #ifdef __cplusplus
 }
