@@ -1,8 +1,8 @@
-/* Makes one call, for an instruction count of it: calls (read|form|items|edges|total) PLAN, or
-   calls write PLAN [LENGTH], where the text slice has this length, else TASKITER_TEXT_BYTES, or
-   calls read (name|number), where the text is a line with one long field. Prints what the count is
-   set against: the text's length, or the number that the call answers; where writing is refused,
-   the refusal. */
+/* Makes one call, for an instruction count of it: calls (read|form|items|edges|prepare|total)
+   PLAN, or calls write PLAN [LENGTH], where the text slice has this length, else
+   TASKITER_TEXT_BYTES, or calls read (name|number), where the text is a line with one long field.
+   Prints what the count is set against: the text's length, or the number that the call answers;
+   where writing is refused, the refusal. */
 #include <stdbool.h>
 #include <stddef.h>
 #include <stdint.h>
@@ -19,6 +19,7 @@ static char text[TEXT_ROOM];
 static uint64_t plan[TASKITER_PLAN_WORDS];
 static uint16_t items[TASKITER_MAX_ITEMS];
 static uint32_t list[TASKITER_EDGE_NUMBERS];
+static uint16_t tables[TASKITER_PREPARED];
 static uint8_t written[TASKITER_TEXT_BYTES];
 
 /* Puts a line that is refused with 1 for its last field, which has FIELD_BYTES bytes; gives its
@@ -57,6 +58,8 @@ int main(int argc, char **argv) {
         shown = taskiter_items(plan, TASKITER_PLAN_WORDS, items, TASKITER_MAX_ITEMS).number;
     if (strcmp(argv[1], "edges") == 0)
         shown = taskiter_edges(plan, TASKITER_PLAN_WORDS, list, TASKITER_EDGE_NUMBERS).number;
+    if (strcmp(argv[1], "prepare") == 0)
+        shown = taskiter_prepare(plan, TASKITER_PLAN_WORDS, tables, TASKITER_PREPARED).number;
     if (strcmp(argv[1], "total") == 0)
         shown = taskiter_total(plan, TASKITER_PLAN_WORDS).number;
     if (strcmp(argv[1], "write") == 0)
