@@ -1,4 +1,6 @@
 // What the benchmarks of bench/ call from C besides the runtime: the in-form test alone.
+#![tactic(auto)]
+
 ghost use Rattle.std.specs.Prelude.{◌≡◌, ◌&&◌, leb, length, take};
 ghost use Rattle.plan.specs.Layout.{plan_words};
 ghost use Rattle.plan.specs.Form.{in_form};

@@ -109,11 +109,11 @@ module _ (B : Body) where
 
     -- what is named is a region
     pub named_region : (y : Item) (g : ℕ) → Known y → Names y g → g < B.regions
-    named_region (task i) g k n = ⊎_elim (λ m. F.reads_below i g k m) (λ m. F.writes_Below i g k m) n
-    named_region (send i h q) g k (inl e) = rw (eqb-true g h e) (F.writes_Below i h k.below k.writes)
+    named_region (task i) g k n = ⊎_elim (λ m. F.reads_below i g k m) (λ m. F.writes_below i g k m) n
+    named_region (send i h q) g k (inl e) = rw (eqb-true g h e) (F.writes_below i h k.below k.writes)
     named_region (send i h q) g k (inr e) = absurd (not_both e refl)
     named_region (receive i h q) g k (inl e) = absurd (not_both e refl)
-    named_region (receive i h q) g k (inr e) = rw (eqb-true g h e) (F.writes_Below i h k.below k.writes)
+    named_region (receive i h q) g k (inr e) = rw (eqb-true g h e) (F.writes_below i h k.below k.writes)
 
     -- at copies
 
@@ -128,14 +128,14 @@ module _ (B : Body) where
     pub copy_read : (q g a : ℕ) → q < B.ranks → g < B.regions → (y : Item) → Known y → mem (copy B q g) (reads_of B a y) ≡ (eqb (item_rank B y) q && reads_copy y g)
     unfolding reads_of
     copy_read q g a lq lg (task i) k = mem_copy q g (B.rank i) (B.reads i) lg (λ h. F.reads_below i h k)
-    copy_read q g a lq lg (send i h r) k = mem_copy_one q g (B.rank i) h lg (F.writes_Below i h k.below k.writes)
+    copy_read q g a lq lg (send i h r) k = mem_copy_one q g (B.rank i) h lg (F.writes_below i h k.below k.writes)
     copy_read q g a lq lg (receive i h r) k = no_copy q g r (a - 1) lq lg
 
     pub copy_written : (q g a : ℕ) → q < B.ranks → g < B.regions → (y : Item) → Known y → mem (copy B q g) (writes_of B a y) ≡ (eqb (item_rank B y) q && writes_copy y g)
     unfolding writes_of
-    copy_written q g a lq lg (task i) k = mem_copy q g (B.rank i) (B.writes i) lg (λ h. F.writes_Below i h k)
+    copy_written q g a lq lg (task i) k = mem_copy q g (B.rank i) (B.writes i) lg (λ h. F.writes_below i h k)
     copy_written q g a lq lg (send i h r) k = no_copy q g (B.rank i) a lq lg
-    copy_written q g a lq lg (receive i h r) k = mem_slot q g (a - 1) (copy B r h ∷ []) lq lg ∙ mem_copy_one q g r h lg (F.writes_Below i h k.below k.writes)
+    copy_written q g a lq lg (receive i h r) k = mem_slot q g (a - 1) (copy B r h ∷ []) lq lg ∙ mem_copy_one q g r h lg (F.writes_below i h k.below k.writes)
 
     -- who accesses or writes rank q's copy of g is on rank q and names g
 
@@ -157,17 +157,17 @@ module _ (B : Body) where
     read_place : (a x : ℕ) (y : Item) → Known y → mem x (reads_of B a y) ≡ true → Place a y x
     unfolding reads_of
     read_place a x (task i) k h = let r = mem_map_from (copy B (B.rank i)) x (B.reads i) h in of_copy r.0 (F.reads_below i r.0 k r.1) r.2
-    read_place a x (send i g q) k h = of_copy g (F.writes_Below i g k.below k.writes) (mem_one x (copy B (B.rank i) g) h)
+    read_place a x (send i g q) k h = of_copy g (F.writes_below i g k.below k.writes) (mem_one x (copy B (B.rank i) g) h)
     read_place a x (receive i g q) k h = of_receive refl (mem_one x (slot (a - 1)) h)
 
     written_place : (a x : ℕ) (y : Item) → Known y → mem x (writes_of B a y) ≡ true → Place a y x
     unfolding writes_of
-    written_place a x (task i) k h = let r = mem_map_from (copy B (B.rank i)) x (B.writes i) h in of_copy r.0 (F.writes_Below i r.0 k r.1) r.2
+    written_place a x (task i) k h = let r = mem_map_from (copy B (B.rank i)) x (B.writes i) h in of_copy r.0 (F.writes_below i r.0 k r.1) r.2
     written_place a x (send i g q) k h = of_send refl (mem_one x (slot a) h)
     written_place a x (receive i g q) k h =
         ⊎_elim
         (λ e. of_receive refl e)
-        (λ m. of_copy g (F.writes_Below i g k.below k.writes) (mem_one x (copy B q g) m))
+        (λ m. of_copy g (F.writes_below i g k.below k.writes) (mem_one x (copy B q g) m))
         (mem_cases x (slot (a - 1)) (copy B q g ∷ []) h)
 
     pub place_of : (a x : ℕ) → a < item_count B → Accesses (system B) a x → Place a (item_at B a) x

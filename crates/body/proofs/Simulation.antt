@@ -122,7 +122,7 @@ module _ (B : Body) (F : Fits B) (p : ℕ) (lp : p < B.passes) (t : ℕ) (lt : t
   task_other k e q g l m = store_out B p k (task t) (copy B q g) e (λ w. clash (mem_map_from (copy B (B.rank t)) (copy B q g) (B.writes t) w))
     where
       clash : (h : ℕ) × (mem h (B.writes t) ≡ true) × (copy B q g ≡ copy B (B.rank t) h) → ⊥
-      clash (h, w, i) = not_both (subst (λ (z : ℕ). mem z (B.writes t) ≡ true) (sym (copies_apart B q g (B.rank t) h l (F.writes_Below t h lt w) i).1) w) m
+      clash (h, w, i) = not_both (subst (λ (z : ℕ). mem z (B.writes t) ≡ true) (sym (copies_apart B q g (B.rank t) h l (F.writes_below t h lt w) i).1) w) m
 
   after_task : (k : ℕ) → item_at B k ≡ task t → BeforeTask B p t k → BehindTask B p t (transfers_of B t) (suc k)
   after_task k e r =
@@ -181,10 +181,10 @@ module _ (B : Body) (F : Fits B) (p : ℕ) (lp : p < B.passes) (t : ℕ) (lt : t
         record {
           own = λ h w. elim (ℕ_discrete (copy B (B.rank t) h) (copy B q g)) [
             | yes z ↦ ap (store_at (full_system B) p (suc (suc k))) z ∙ receive_copy
-            | no z ↦ receive_other (B.rank t) h (F.rank_below t lt) (F.writes_Below t h lt w) z ∙ M.own h w
+            | no z ↦ receive_other (B.rank t) h (F.rank_below t lt) (F.writes_below t h lt w) z ∙ M.own h w
           ];
           copies = λ r h lr lh v. elim (ℕ_discrete (copy B r h) (copy B q g)) [
-            | yes z ↦ inl (ap (store_at (full_system B) p (suc (suc k))) z ∙ (receive_copy ∙ (sym (cells_wrote B p t g m) ∙ ap (cells_at B p (suc t)) (sym (copies_apart B r h q g lh (F.writes_Below t g lt m) z).1))))
+            | yes z ↦ inl (ap (store_at (full_system B) p (suc (suc k))) z ∙ (receive_copy ∙ (sym (cells_wrote B p t g m) ∙ ap (cells_at B p (suc t)) (sym (copies_apart B r h q g lh (F.writes_below t g lt m) z).1))))
             | no z ↦ ⊎_elim (λ w. inl (receive_other r h lr lh z ∙ w)) (λ w. inr (left r h z (in-cases w))) (M.copies r h lr lh v)
           ];
           words = words_next B p (suc k) (receive t g q) er receive_word (words_next B p k (send t g q) es send_word M.words);

@@ -1,5 +1,7 @@
 // The calls on a lent state, behind the doors. A function here requires what its door has tested,
 // and tests the rest.
+#![tactic(auto)]
+
 ghost use Rattle.std.specs.Prelude.{◌≡◌};
 
 pub mod drawing;
@@ -12,7 +14,7 @@ pub mod totals;
 
 // The answer of a step or result: refusal 0 and the word; or a refusal, and then the word is 0.
 #[repr(C)]
-#[derive(Drop)]
+#[derive(Clone, Copy)]
 pub struct Answer {
     pub refusal: u64,
     pub word: u64,

@@ -115,7 +115,7 @@ fn begins(script: &[u8], at: usize) -> bool {
 
 // The numbers from the first of a line on. A line that has fewer than three does not use those of
 // the next.
-#[derive(Drop)]
+#[derive(Clone, Copy)]
 struct Fields {
     first: u64,
     second: u64,

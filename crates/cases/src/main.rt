@@ -13,6 +13,8 @@
 // In a TEXT a tab is written as a space, a line feed as /, a space as ~, a carriage return as ^, a
 // byte of 0 as ! and one above 127 as %. # is the number of times that TEXT was put before, and $
 // is one more.
+#![tactic(auto)]
+
 mod lent;
 mod lines;
 mod numbers;

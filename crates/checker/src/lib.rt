@@ -1,6 +1,8 @@
 // Checking a journal: its lines are steps by the tables of a plan, each of which must be accepted,
 // a start with the word that it states. What the check answers stands in
 // journal/specs/Checking.antt.
+#![tactic(auto)]
+
 ghost use Rattle.std.specs.Prelude.{◌+◌, ◌^◌, ◌≤◌, ◌<◌, ◌≡◌, length, take};
 ghost use Rattle.plan.specs.Layout.{plan_words};
 ghost use Rattle.plan.specs.Sizes.{count_words, value_words};

@@ -1,5 +1,7 @@
 // The two doors. Every call names its slices, goes through one of them, and is refused there, or
 // finds the plan's items in a table.
+#![tactic(auto)]
+
 ghost use Rattle.std.specs.Prelude.{◌≡◌, ◌||◌, ltb, length};
 ghost use Rattle.plan.specs.Layout.{plan_words};
 ghost use Rattle.plan.specs.Sizes.{max_items, count_words, value_words};
@@ -13,7 +15,7 @@ use plan::layout::{PLAN_WORDS, pass_count};
 use plan::state::{COUNTS, Count, VALUES};
 
 // What a door answers: the refusal, 0 if there is none, and then the number of items.
-#[derive(Drop)]
+#[derive(Clone, Copy)]
 pub struct Entry {
     pub refusal: u64,
     pub items: usize,

@@ -1,5 +1,7 @@
 // A line of a journal, read in one pass over its bytes: no search for a tab comes first, and no
 // digit is looked at twice. What a line may say is fixed by the crate journal.
+#![tactic(auto)]
+
 ghost use Rattle.std.specs.Prelude.{◌≡◌, ◌≤◌, false, length, drop};
 ghost use Rattle.text.specs.Numbers.{is_digit};
 ghost use Rattle.journal.specs.Lines.{step_of};
@@ -9,7 +11,7 @@ ghost use Rattle.entries.specs.Scan.{start_word, finish_word, head_is, head_digi
 use text::{same, wide};
 
 // What a line says.
-#[derive(Drop)]
+#[derive(Clone, Copy)]
 pub enum Entry {
     Start { item: u64, word: u64 },
     Finish { item: u64 },
@@ -17,7 +19,7 @@ pub enum Entry {
 }
 
 // What digits write, and how many they are.
-#[derive(Drop)]
+#[derive(Clone, Copy)]
 struct Digits {
     value: u64,
     size: usize,
@@ -25,7 +27,7 @@ struct Digits {
 
 // The number at an offset, and the offset behind it; no number in form, or one above the largest
 // word, where it is not good.
-#[derive(Drop)]
+#[derive(Clone, Copy)]
 struct Numeral {
     good: bool,
     value: u64,

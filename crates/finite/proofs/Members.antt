@@ -143,7 +143,7 @@ unfolding distinct mem
 distinct_snoc [] x h m = refl
 distinct_snoc (y ∷ l) x h m =
     let d = (and-eq-true_iff (not (mem y l)) (distinct l)).0 h in
-    let other : (x ≡ y) → ⊥ = λ e. not_both (rw e (mem_head y l)) m in
+    let other : (x ≡ y) → ⊥ = λ e. not_both (subst (λ k. mem k (y ∷ l) ≡ true) (sym e) (mem_head y l)) m in
     let rest : mem x l ≡ false = false_of (mem x l) (λ k. not_both (mem_tail x y l k) m) in
     let one : mem y (x ∷ []) ≡ false = false_of (mem y (x ∷ [])) (λ k. other (sym (mem_one y x k))) in
     rw (mem_append y l (x ∷ []), not-true (mem y l) d.0, one, distinct_snoc l x d.1 rest)

@@ -1,5 +1,7 @@
 // Whether the words of a plan are in form (plan/specs/Form.antt), and the ranks that want what its
 // accesses write. Nothing here changes a plan.
+#![tactic(auto)]
+
 ghost use Rattle.std.specs.Prelude.{◌≡◌, length, replicate, if◌then◌else◌};
 ghost use Rattle.plan.specs.Layout.{plan_words};
 ghost use Rattle.plan.specs.Form.{in_form, words_ok};

@@ -19,7 +19,7 @@ use plan::numbers::as_index;
 
 // What the test finds: whether the words are in form, and how often an access changes the rank of
 // its region, 0 where they are not.
-#[derive(Drop)]
+#[derive(Clone, Copy)]
 pub(crate) struct Checked {
     pub(crate) ok: bool,
     pub(crate) changes: u64,

@@ -1,5 +1,7 @@
 // The item table: for each item its rank, kind, task or region, and whether it has a pass fewer
 // than the plan, in one number (graph/specs/Table.antt), put there in the order of the items.
+#![tactic(auto)]
+
 ghost use Rattle.std.specs.Prelude.{◌+◌, ◌≤◌, ◌<◌, ◌≡◌, cond, ◌∷◌, [], ◌++◌, length, drop};
 ghost use Rattle.finite.specs.Lists.{collect};
 ghost use Rattle.finite.specs.Put.{Put, Added, RoomAt};
@@ -138,7 +140,7 @@ fn put_items(
 }
 
 // A table of a plan's items, and their number; not made, and 0, where the plan is not in form.
-#[derive(Drop)]
+#[derive(Clone, Copy)]
 pub struct Made {
     pub formed: bool,
     pub count: usize,

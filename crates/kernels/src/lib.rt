@@ -1,5 +1,7 @@
 // The word that a task computes from the words it reads, and the number of reads that its kernel
 // permits. Which words are read, and what becomes of the computed one, is no matter of this crate.
+#![tactic(auto)]
+
 ghost use Rattle.std.specs.Prelude.{◌≡◌, ◌+◌, ◌-◌, ◌*◌, ◌/◌, ◌%◌, ◌^◌, ◌≤◌, max};
 ghost use Rattle.kernels.specs.Kernels.{read_at, sum_word, difference_word, quarter, mean_word, largest, kernel_by, word_by, allowed, kernel_word, suits, is_kernel};
 
@@ -86,7 +88,7 @@ fn largest_word(reads: &[u64]) -> u64
 }
 
 // What a kernel computes.
-#[derive(Drop)]
+#[derive(Clone, Copy)]
 pub enum Computation {
     Constant,
     Sum,
@@ -96,7 +98,7 @@ pub enum Computation {
 }
 
 // How many reads a kernel permits.
-#[derive(Drop)]
+#[derive(Clone, Copy)]
 pub enum Permitted {
     Any,
     Exactly(u64),
@@ -104,7 +106,7 @@ pub enum Permitted {
 }
 
 // What a number is as a kernel.
-#[derive(Drop)]
+#[derive(Clone, Copy)]
 pub enum Kernel {
     Known {
         computation: Computation,

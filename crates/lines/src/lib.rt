@@ -1,5 +1,7 @@
 // The lines that the run program prints, put at the start of a lent slice. Inside, each function
 // puts its bytes from an offset on and answers the offset behind them.
+#![tactic(auto)]
+
 ghost use Rattle.std.specs.Prelude.{◌+◌, ◌*◌, ◌<◌, ◌≤◌, [], ◌∷◌, ◌++◌, length};
 ghost use Rattle.finite.specs.Put.{Put, Room, Added, RoomAt};
 ghost use Rattle.lines.specs.Lines.{field, kind_field, steps_line, refused_line};

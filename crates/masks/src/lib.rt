@@ -1,4 +1,6 @@
 // Sets of items as bits, for taking the lowest: item a is bit a % 64 of word a / 64.
+#![tactic(auto)]
+
 ghost use Rattle.std.specs.Prelude.{◌<◌, ◌^◌, ◌≡◌, false, eqb, length};
 ghost use Rattle.plan.specs.Sizes.{max_items};
 ghost use Rattle.masks.specs.Masks.{mask_words, in_mask, Entered, Lowest};

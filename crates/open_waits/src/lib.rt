@@ -2,6 +2,8 @@
 // writer of each place that it touches. One that writes a place also waits for the readers since
 // then, and a receive for its send. An item found at two places is counted once. The definitions
 // stand in specs/Sources.antt.
+#![tactic(auto)]
+
 ghost use Rattle.std.specs.Prelude.{ℕ, ◌+◌, ◌-◌, ◌*◌, ◌≤◌, ◌<◌, ◌≡◌, ◌&&◌, eqb, ltb, leb, length, get_or};
 ghost use Rattle.finite.specs.Below.{count_below};
 ghost use Rattle.finite.specs.Update.{replaced};

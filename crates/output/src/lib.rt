@@ -1,5 +1,7 @@
 // Bytes and decimal numbers put into a lent slice. Each function puts its bytes from an offset on
 // and answers the offset behind them.
+#![tactic(auto)]
+
 ghost use Rattle.std.specs.Prelude.{◌+◌, ◌/◌, ◌%◌, ◌≤◌, ◌<◌, ◌≡◌, [], ◌∷◌, ◌++◌, length};
 ghost use Rattle.std.proofs.lemmas.List.Edits.{sets};
 ghost use Rattle.finite.specs.Put.{Added, RoomAt};

@@ -1,6 +1,8 @@
 // Prepared plans. What steps by tables answer stands in specs/, and that they are the ordinary ones
 // in proofs/. Tables are made in `tables`, judged in `ranges`, and `engine` takes steps by them.
 // Here is where the parts of the tables start (specs/Tables.antt).
+#![tactic(auto)]
+
 pub const PREPARED: usize = 17666;
 
 pub const FIRST_CODE: usize = 1;

@@ -1,5 +1,7 @@
 // What refuses a step by tables: whether the words that it uses lie in their ranges, and its own
 // tests. It looks at the numbers of that step's item, and at no other item's.
+#![tactic(auto)]
+
 ghost use Rattle.std.specs.Prelude.{ℕ, ◌+◌, ◌-◌, ◌≤◌, ◌<◌, ◌≡◌, ◌&&◌, ltb, leb, length, get_or};
 ghost use Rattle.finite.specs.Below.{all_below};
 ghost use Rattle.plan.specs.Limits.{max_accesses};
@@ -27,7 +29,7 @@ const MAX_EDGES: usize = 4224;
 
 // The numbers that a step of an item looks at: the passes of the plan, its own passes, how many
 // items the plan has, its counts of passes, and how many of its waits are unmet.
-#[derive(Drop)]
+#[derive(Clone, Copy)]
 struct Item {
     passes: u64,
     own: u64,

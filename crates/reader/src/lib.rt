@@ -1,6 +1,8 @@
 // Reading a lent text into a lent plan: line after line, each record's tests in the paper's order,
 // its words stored where it passes them all. Where the words of a plan stand is in
 // plan/src/layout.rt. What a line says is no matter of this crate.
+#![tactic(auto)]
+
 ghost use Rattle.std.specs.Prelude.{◌≡◌, true, List, ℕ, ◌≤◌, ◌<◌, eqb, length, replicate};
 ghost use Rattle.text.specs.declared.Record.{Record};
 ghost use Rattle.finite.specs.Below.{any_below};
@@ -26,7 +28,7 @@ use text::{LineReader, Mode, Number, Record, RecordAt};
 
 // What reading answers: refusal 0 and line 0 where the text is accepted.
 #[repr(C)]
-#[derive(Drop)]
+#[derive(Clone, Copy)]
 pub struct Answer {
     pub refusal: u64,
     pub line: u64,
@@ -34,7 +36,7 @@ pub struct Answer {
 
 // What a record leads to: on with a phase (0 no line read, 1 no task open, 2 a task open), or a
 // refusal.
-#[derive(Drop)]
+#[derive(Clone, Copy)]
 enum Step {
     Go(u64),
     Stop(u64),
@@ -276,7 +278,7 @@ fn take_record(phase: u64, record: Record, named: &mut [u64], words: &mut [u64])
 }
 
 // What the lines so far lead to: a refusal at a line, or, at the line behind them, a phase.
-#[derive(Drop)]
+#[derive(Clone, Copy)]
 enum Walk {
     Refused { why: u64, line: u64 },
     Done { phase: u64, line: u64 },

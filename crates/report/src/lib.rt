@@ -1,4 +1,6 @@
 // What the run program prints for a text, as bytes (specs/Report.antt).
+#![tactic(auto)]
+
 ghost use Rattle.std.specs.Prelude.{◌*◌, ◌≤◌, ◌≡◌, true, ◌++◌, length};
 ghost use Rattle.finite.specs.Put.{Put, Room};
 ghost use Rattle.plan.specs.Layout.{plan_words};

@@ -3,7 +3,7 @@ ghost use Rattle.io.specs.Counts.{IsPrefixLen};
 
 // How many bytes were read, and whether the input was read whole: up to its end, or up to the end
 // of the buffer.
-#[derive(Drop)]
+#[derive(Clone, Copy)]
 pub(crate) struct Got {
     pub(crate) whole: bool,
     pub(crate) bytes: usize,

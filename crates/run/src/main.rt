@@ -1,6 +1,8 @@
 // Reads a plan from standard input, runs it to its end and prints its items, its edges, the number
 // of steps, and the value of each region; of a refused text the refusal and the line. What is
 // printed is what `report` puts. Output that is closed ends the program.
+#![tactic(auto)]
+
 mod input;
 
 use input::read_text;

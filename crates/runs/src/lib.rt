@@ -1,6 +1,8 @@
 // Running a plan to its end: turns, in each of which the lowest item that may start is started and
 // finished, by the tables of the plan. The set of the items that may start is kept beside the lent
 // state.
+#![tactic(auto)]
+
 ghost use Rattle.std.specs.Prelude.{◌≤◌, ◌≡◌, length};
 ghost use Rattle.plan.specs.Limits.{max_accesses};
 ghost use Rattle.plan.specs.Sizes.{max_items, count_words, value_words, edge_words};
@@ -94,7 +96,7 @@ fn run_opened(
 }
 
 // How many edges were listed, and how many steps were taken.
-#[derive(Drop)]
+#[derive(Clone, Copy)]
 pub struct Ended {
     pub edges: usize,
     pub steps: u64,

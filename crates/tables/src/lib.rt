@@ -1,4 +1,6 @@
 // The tables of a plan, filled part by part (prepared/specs/Tables.antt).
+#![tactic(auto)]
+
 ghost use Rattle.std.specs.Prelude.{◌≤◌, ◌≡◌, ◌++◌, length, drop};
 ghost use Rattle.finite.specs.Put.{Added};
 ghost use Rattle.plan.specs.Layout.{body_of};

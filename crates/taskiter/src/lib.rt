@@ -2,6 +2,8 @@
 // slices, lists of these, the items that are ready, the graph besides, steps by the tables of a
 // prepared plan, and journals (include/taskiter.h). A call looks at what it is lent, and keeps
 // nothing between calls.
+#![tactic(auto)]
+
 ghost use Rattle.std.specs.Prelude.{◌≡◌, cond};
 ghost use Rattle.reader.specs.Answer.{Reads};
 ghost use Rattle.graph.specs.Answers.{ItemsAnswer, EdgesAnswer, TotalAnswer};
@@ -412,7 +414,7 @@ pub extern "C" fn taskiter_check_more(
 
 // What a run answers: refusal 0, and how many items, edges and steps there were; or a refusal, and
 // then zeros.
-#[derive(Drop)]
+#[derive(Clone, Copy)]
 pub struct Outcome {
     pub refusal: u64,
     pub items: u64,

@@ -6,5 +6,4 @@ pub mod WordLaws
 pub mod SplitLaws
 pub mod Fields
 pub mod LineLaws
-pub mod Walking
 pub mod Examples

@@ -1,6 +1,8 @@
 // The plan text's lines: what the line at an offset says, and where the next one starts. A line
 // says a record, whose word and numbers are its fields. The order of the records and the limits of
 // their numbers are not looked at here.
+#![tactic(auto)]
+
 ghost use Rattle.std.specs.Prelude.{◌≡◌, ◌+◌, ◌*◌, ◌/◌, ◌≤◌, true, [], length, take, drop, nat_lt};
 ghost use Rattle.std.specs.Int.Count.{count_trailing_zeros};
 ghost use Rattle.text.specs.Text.{before, bytes};
@@ -104,7 +106,7 @@ fn behind(t: &[u8], n: usize) -> &[u8]
 }
 
 // What a field says as a number: TooLarge is in form, and above the largest word.
-#[derive(Drop)]
+#[derive(Clone, Copy)]
 pub enum Number {
     Value(u64),
     TooLarge,
@@ -186,7 +188,7 @@ pub fn number_of(f: &[u8]) -> Number
 }
 
 // The word that begins a line.
-#[derive(Drop)]
+#[derive(Clone, Copy)]
 pub enum Keyword {
     Loop,
     Start,
@@ -248,13 +250,13 @@ pub fn keyword_of(f: &[u8]) -> Keyword
 
 // The numbers of two fields and of three, each in form; or not so many fields, or one of them not
 // in form.
-#[derive(Drop)]
+#[derive(Clone, Copy)]
 pub enum Two {
     Pair(Number, Number),
     NoPair,
 }
 
-#[derive(Drop)]
+#[derive(Clone, Copy)]
 pub enum Three {
     Triple(Number, Number, Number),
     NoTriple,
@@ -324,7 +326,7 @@ fn three_numbers(t: &[u8]) -> Three
 }
 
 // How a task names a region.
-#[derive(Drop)]
+#[derive(Clone, Copy)]
 pub enum Mode {
     In,
     Out,
@@ -332,7 +334,7 @@ pub enum Mode {
 }
 
 // What a line says. Every number that it holds is in form.
-#[derive(Drop)]
+#[derive(Clone, Copy)]
 pub enum Record {
     Loop {
         passes: Number,
@@ -358,7 +360,7 @@ pub enum Record {
 
 // What stands at an offset: a line, with the offset behind its line feed, or bytes that no line
 // feed ends.
-#[derive(Drop)]
+#[derive(Clone, Copy)]
 pub enum RecordAt {
     Line { record: Record, next: usize },
     Unended,

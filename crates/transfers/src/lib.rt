@@ -1,6 +1,8 @@
 // The search for a plan's transfers: their number, and for each access that writes a mask of the
 // ranks that want its word, and one of those to which it goes by a wrapped transfer. The plan's
 // words are in form but for the number of transfers.
+#![tactic(auto)]
+
 ghost use Rattle.std.specs.Prelude.{◌+◌, ◌*◌, ◌^◌, ◌≤◌, ◌<◌, ◌≡◌, true, cond, ◌++◌, length, get_or, set, replicate};
 ghost use Rattle.std.specs.Int.Bits.{bit_or};
 ghost use Rattle.std.specs.Int.Count.{ones};

@@ -1,6 +1,8 @@
 // What a finish does to the numbers of unmet waits that stand in the counts: one is taken off those
 // of the items whose wait it meets, and the item's own is counted afresh after it. Nothing is
 // refused here: a start looks at the numbers (crate calls).
+#![tactic(auto)]
+
 ghost use Rattle.std.specs.Prelude.{◌+◌, ◌-◌, ◌≤◌, ◌<◌, ◌≡◌, true, false, cond, ◌&&◌, eqb, ltb, length, set};
 ghost use Rattle.body.specs.Places.{system};
 ghost use Rattle.edges.specs.Tests.{distance, edge_test};

@@ -1,4 +1,6 @@
 // A plan written back as text (specs/Answer.antt): what reading it again leaves is the same plan.
+#![tactic(auto)]
+
 ghost use Rattle.std.specs.Prelude.{◌≡◌, true, leb, length};
 ghost use Rattle.plan.specs.Form.{in_form};
 ghost use Rattle.plan.specs.Layout.{plan_words};
