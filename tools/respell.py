@@ -35,7 +35,7 @@ def snake(name):
 
 def files(kinds):
     for folder, _, names in os.walk(os.path.join(ROOT, "crates")):
-        if "/out" in folder:
+        if "out" in folder.split("/"):
             continue
         for name in sorted(names):
             if name.endswith(kinds):

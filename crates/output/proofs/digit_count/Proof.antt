@@ -1,5 +1,5 @@
 use borrow.Author.Rules.{rules}
-use Rattle.output.proofs.Numbers.{Counted, counted_none, counted-more}
+use Rattle.output.proofs.Numbers.{Counted, counted_none, counted_more_lem}
 use Rattle.output.proofs.digit_count.Statement.{statement}
 use Rattle.output.proofs.digit_count.Tie as tie
 
@@ -13,7 +13,7 @@ loop-holds : tie.Need-loop-init invariant-loop decreases-loop
 loop-holds c = search (rules, counted_none)
 
 loop-again : tie.Need-loop-preserved invariant-loop decreases-loop
-loop-again c = search (rules, counted-more)
+loop-again c = search (rules, counted_more_lem)
 
 pub digit-count-spec : {M : Type 1} → statement M
 digit-count-spec =

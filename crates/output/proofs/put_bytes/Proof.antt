@@ -3,7 +3,7 @@ use mathlib.Core.Path.{◌≡◌}
 use borrow.Author.Rules.{rules}
 use lib.ListN.{length, drop}
 use lib.Seq.{sets}
-use Rattle.finite.proofs.Puts.{copy-none, copy_more, copy_done}
+use Rattle.finite.proofs.Puts.{copy_none, copy_more, copy_done}
 use Rattle.output.proofs.put_bytes.Statement.{statement}
 use Rattle.output.proofs.put_bytes.Tie as tie
 
@@ -14,7 +14,7 @@ abbrev decreases-loop : tie.decreases-loop
 decreases-loop out₀ at bytes i₀ out i = length bytes - i
 
 loop-holds : tie.Need-loop-init invariant-loop decreases-loop
-loop-holds c = search (rules, copy-none)
+loop-holds c = search (rules, copy_none)
 
 loop-again : tie.Need-loop-preserved invariant-loop decreases-loop
 loop-again c = search (rules, copy_more)

@@ -1,7 +1,7 @@
 use mathlib.Core.Path.{refl}
 use native.Mathlib.Omega.{arith}
 use borrow.Author.Rules.{rules}
-use Rattle.finite.proofs.Puts.{added-append, added-one, room-rest}
+use Rattle.finite.proofs.Puts.{added_append, added_one, room_rest}
 use Rattle.output.proofs.put_field.Statement.{statement}
 use Rattle.output.proofs.put_field.Tie as tie
 
@@ -12,10 +12,10 @@ add-put-number : tie.Need-overflow-add-put-number
 add-put-number c = search rules
 
 put-number-requires : tie.Need-put-number-requires
-put-number-requires c κs = room-rest (added-one refl) c.before.before.requires
+put-number-requires c κs = room_rest (added_one refl) c.before.before.requires
 
 returns : tie.Need-returns
-returns c = added-append (added-one refl) c.before.before.put-number.ensures
+returns c = added_append (added_one refl) c.before.before.put-number.ensures
 
 same_length : tie.Need-same-length
 same_length c = (returns c).size
