@@ -93,7 +93,7 @@ pub step_adds : (s : State) (r : Record) → good s → Adds (records_of s) r (s
 step_adds first (Loop p q n) G =
     adds_need _ _ (lies 0 max_passes p) 3 _ λ a.
     adds_need _ _ (lies 1 max_ranks q) 3 _ λ b.
-    adds_need _ _ (lies 1 max_regions n) 3 _ λ c. (
+    adds_need _ _ (lies 1 max_regions n) 3 (next (closed (with_loop (value_of p) (value_of q) (value_of n)))) λ c. (
       rw (lies_is 0 max_passes p a, lies_is 1 max_ranks q b, lies_is 1 max_regions n c),
       rw (lies_word 0 max_passes p (omega arith) a, lies_word 1 max_ranks q (omega arith) b, lies_word 1 max_regions n (omega arith) c),
     )

@@ -1,0 +1,18 @@
+use Rattle.std.proofs.Common.{◌≡◌, ◌-◌, ◌≤◌, eqb, rules}
+use Rattle.finite.specs.Below.{all_below}
+use Rattle.finite.proofs.Below.{all_done}
+use Rattle.plan.specs.Limits.{max_regions}
+use Rattle.plan.specs.Layout.{regions_of}
+use Rattle.form.specs.Scan.{behind_ok}
+use Rattle.form.proofs.Rest.{behind_none, behind_more}
+use Rattle.form.proofs.words.behind_regions.Goals as goal
+
+pub loop-g-init : goal.loop-g-init
+loop-g-init c = search (rules, behind_none)
+
+pub loop-g-preserved : goal.loop-g-preserved
+loop-g-preserved c =
+    (search rules, search rules, behind_more _ _ c.loop-g.bits _ c.loop-g.invariant.2 (search rules) (search rules) c.requires.2)
+
+pub returns : goal.returns
+returns c = search (rules, all_done)

@@ -1,0 +1,15 @@
+use Rattle.std.proofs.Common.{◌≡◌, ◌-◌, ◌*◌, ◌≤◌, eqb, rules}
+use Rattle.finite.specs.Below.{all_below}
+use Rattle.finite.proofs.Below.{all_none, all_done}
+use Rattle.plan.specs.Limits.{max_tasks}
+use Rattle.plan.specs.Layout.{tasks_of, rank_index}
+use Rattle.form.specs.Scan.{pair_ok}
+use Rattle.form.proofs.Rest.{pair_more}
+use Rattle.form.proofs.words.behind_tasks.Given as goal
+
+abbrev pub invariant-loop-k : goal.invariant-loop-k
+invariant-loop-k l =
+    (l.k ≤ l.half) × (l.tasks ≡ tasks_of l.plan) × (l.first ≡ rank_index l.tasks) × (l.half ≡ 6 * (max_tasks - l.tasks)) × (eqb l.bits 0 ≡ all_below l.k (pair_ok l.plan))
+
+abbrev pub decreases-loop-k : goal.decreases-loop-k
+decreases-loop-k l = l.half - l.k

@@ -1,0 +1,9 @@
+use borrow.Author.Rules.{rules}
+use Rattle.output.proofs.Numbers.{Counted, counted_none, counted_more_lem}
+use Rattle.output.proofs.digit_count.Given as goal
+
+abbrev pub invariant-loop-rest : goal.invariant-loop-rest
+invariant-loop-rest l = Counted l.n l.rest l.behind
+
+abbrev pub decreases-loop-rest : goal.decreases-loop-rest
+decreases-loop-rest l = l.rest

@@ -1,0 +1,11 @@
+use Prim.Native.Nat.{◌≤◌, ◌-◌}
+use borrow.Author.Rules.{rules}
+use Rattle.transfers.specs.Search.{Closed}
+use Rattle.transfers.proofs.Closing.{closed_long, closed_size, closed_most, ahead_long, same_long, same_size, sources_last, region_few, closed_more, closed_done}
+use Rattle.transfers.proofs.close_regions.Given as goal
+
+abbrev pub invariant-loop-closed : goal.invariant-loop-closed
+invariant-loop-closed l = (l.closed ≤ l.regions) × Closed l.plan l.closed l.masks l.wrapped l.total
+
+abbrev pub decreases-loop-closed : goal.decreases-loop-closed
+decreases-loop-closed l = l.regions - l.closed

@@ -1,0 +1,17 @@
+use Prim.Native.Nat.{◌≤◌, ◌-◌}
+use mathlib.Core.Path.{◌≡◌}
+use borrow.Author.Rules.{rules}
+use lib.ListN.{length}
+use Rattle.plan.specs.Limits.{max_regions}
+use Rattle.transfers.specs.Search.{no_writers}
+use Rattle.transfers.proofs.Last.{no_writers_none, no_writers_more, no_writers_done}
+use Rattle.transfers.proofs.name_unwritten.Goals as goal
+
+pub loop-g-init : goal.loop-g-init
+loop-g-init c = search (rules, no_writers_none)
+
+pub loop-g-preserved : goal.loop-g-preserved
+loop-g-preserved c = search (rules, no_writers_more)
+
+pub returns : goal.returns
+returns c = search (rules, no_writers_done)

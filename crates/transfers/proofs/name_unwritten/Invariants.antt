@@ -1,0 +1,14 @@
+use Prim.Native.Nat.{◌≤◌, ◌-◌}
+use mathlib.Core.Path.{◌≡◌}
+use borrow.Author.Rules.{rules}
+use lib.ListN.{length}
+use Rattle.plan.specs.Limits.{max_regions}
+use Rattle.transfers.specs.Search.{no_writers}
+use Rattle.transfers.proofs.Last.{no_writers_none, no_writers_more, no_writers_done}
+use Rattle.transfers.proofs.name_unwritten.Given as goal
+
+abbrev pub invariant-loop-g : goal.invariant-loop-g
+invariant-loop-g l = (l.g ≤ l.regions) × (length l.last ≡ max_regions) × (l.last ≡ no_writers l.g)
+
+abbrev pub decreases-loop-g : goal.decreases-loop-g
+decreases-loop-g l = l.regions - l.g

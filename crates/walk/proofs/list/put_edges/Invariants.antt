@@ -1,0 +1,15 @@
+use Prim.Native.Nat.{◌-◌, ◌≤◌}
+use borrow.Author.Rules.{rules}
+use Rattle.finite.specs.Lists.{collect}
+use Rattle.finite.specs.Put.{Added}
+use Rattle.finite.proofs.Puts.{added_put, collect_none, collect_more, collect_done}
+use Rattle.plan.specs.Layout.{body_of}
+use Rattle.walk.specs.Listing.{numbers_from}
+use Rattle.walk.proofs.Listing.{numbers_room, numbers_fit}
+use Rattle.walk.proofs.list.put_edges.Given as goal
+
+abbrev pub invariant-loop-a : goal.invariant-loop-a
+invariant-loop-a l = (l.a ≤ l.n) × Added (collect l.a (numbers_from (body_of l.plan))) 0 l.initial.edges l.at l.edges
+
+abbrev pub decreases-loop-a : goal.decreases-loop-a
+decreases-loop-a l = l.n - l.a

@@ -1,0 +1,21 @@
+use Prim.Native.Nat.{◌-◌, ◌≤◌}
+use mathlib.Core.Path.{◌≡◌}
+use mathlib.Core.Bool.{not}
+use borrow.Author.Rules.{rules}
+use lib.Dec.{eqb}
+use lib.ListN.{get_or}
+use Rattle.finite.specs.Below.{any_below}
+use Rattle.finite.proofs.Below.{any_none, any_more, any_done}
+use Rattle.plan.specs.Limits.{max_regions}
+use Rattle.walk.specs.Rows.{any_open}
+use Rattle.walk.proofs.rows.any_open.Goals as goal
+
+pub loop-g-init : goal.loop-g-init
+loop-g-init c = search (rules, any_none)
+
+pub loop-g-preserved : goal.loop-g-preserved
+loop-g-preserved c = search (rules, any_more)
+
+pub returns : goal.returns
+unfolding any_open
+returns c = search (rules, any_done)

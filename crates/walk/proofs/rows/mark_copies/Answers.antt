@@ -1,0 +1,35 @@
+use mathlib.Core.Path.{◌∙◌}
+use borrow.Author.Rules.{rules}
+use Rattle.graph.proofs.Lookup.{code_rank_lem}
+use Rattle.walk.proofs.RowMarks.{touches_places, passes_places, copies_onwards, copies_back}
+use Rattle.walk.proofs.rows.mark_copies.Goals as goal
+
+pub mark_run-requires : goal.mark_run-requires
+mark_run-requires c = (search rules, search rules, touches_places _ _ _ c.note_item.ensures, search rules)
+
+pub mark_run-requires-then-back : goal.mark_run-requires-then-back
+mark_run-requires-then-back c =
+    let pre = c.requires in
+    let passed = c.mark_run.ensures in
+    (pre.0, search rules, passes_places _ _ _ _ _ _ _ _ _ (touches_places _ _ _ c.note_item.ensures) passed, search rules)
+
+pub returns-then-back : goal.returns-then-back
+returns-then-back c =
+    let pre = c.requires in
+    copies_back _ _ _ _ pre.0.count (c.item_rank-q.ensures ∙ code_rank_lem _ _ _ pre.0 _ pre.1 _ c.wide_16.ensures.0)
+    _ _ _ _ _ _ c.note_item.ensures _ pre.1 c.if-back.true c.mark_run.ensures c.mark_run-then-back.ensures
+
+pub mark_run-requires-2 : goal.mark_run-requires-2
+mark_run-requires-2 c = (search rules, search rules, touches_places _ _ _ c.note_item.ensures, search rules)
+
+pub mark_run-requires-3 : goal.mark_run-requires-3
+mark_run-requires-3 c =
+    let pre = c.requires in
+    let passed = c.mark_run-2.ensures in
+    (pre.0, search rules, passes_places _ _ _ _ _ _ _ _ _ (touches_places _ _ _ c.note_item.ensures) passed, search rules)
+
+pub returns : goal.returns
+returns c =
+    let pre = c.requires in
+    copies_onwards _ _ _ _ pre.0.count (c.item_rank-q.ensures ∙ code_rank_lem _ _ _ pre.0 _ pre.1 _ c.wide_16.ensures.0)
+    _ _ _ _ _ _ c.note_item.ensures _ pre.1 c.if-back.false c.mark_run-2.ensures c.mark_run-3.ensures
