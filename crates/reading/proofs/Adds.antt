@@ -16,7 +16,7 @@ use Rattle.finite.proofs.Tests.{and_intro, and-true, not_both}
 use Rattle.kernels.specs.Kernels.{suits}
 use Rattle.plan.specs.Limits.{max_accesses, max_kernel, max_passes, max_ranks, max_regions, max_tasks, max_word}
 use Rattle.reading.specs.Plan.{Plan, Task, named, read_count, started}
-use Rattle.reading.specs.Reading.{State, Step, below, closed, first, is_word, lies, need, next, no_task_yet, opened, refuse, step, value_of, with_access, with_start, with_task}
+use Rattle.reading.specs.Reading.{State, Step, below, closed, first, is_word, lies, need, next, no_task_yet, opened, refuse, step, value_of, with_access, with_loop, with_start, with_task}
 use Rattle.reading.specs.Written.{access_records, records, start_records, task_records}
 use Rattle.reading.proofs.Accepted.{good}
 use Rattle.reading.proofs.Appends.{accesses_append, starts_append, tasks_append}
@@ -91,9 +91,9 @@ access_adds P t m g =
 
 pub step_adds : (s : State) (r : Record) → good s → Adds (records_of s) r (step s r)
 step_adds first (Loop p q n) G =
-    adds_need _ _ (lies 0 max_passes p) 3 _ λ a.
-    adds_need _ _ (lies 1 max_ranks q) 3 _ λ b.
-    adds_need _ _ (lies 1 max_regions n) 3 (next (closed (with_loop (value_of p) (value_of q) (value_of n)))) λ c. (
+    adds_need (records_of first) (Loop p q n) (lies 0 max_passes p) 3 _ λ a.
+    adds_need (records_of first) (Loop p q n) (lies 1 max_ranks q) 3 _ λ b.
+    adds_need (records_of first) (Loop p q n) (lies 1 max_regions n) 3 (next (closed (with_loop (value_of p) (value_of q) (value_of n)))) λ c. (
       rw (lies_is 0 max_passes p a, lies_is 1 max_ranks q b, lies_is 1 max_regions n c),
       rw (lies_word 0 max_passes p (omega arith) a, lies_word 1 max_ranks q (omega arith) b, lies_word 1 max_regions n (omega arith) c),
     )
@@ -104,19 +104,19 @@ step_adds first End G = tt
 step_adds first Unreadable G = tt
 step_adds (closed P) (Loop p q n) G = tt
 step_adds (closed P) (Record.Start g v) G =
-    adds_need _ _ (no_task_yet P) 2 _ λ o.
-    adds_need _ _ (below P.regions g) 3 _ λ a.
-    adds_need _ _ (is_word v) 3 _ λ b.
-    adds_need _ _ (not (mem (value_of g) (started P.starts))) 6 _ λ c.
+    adds_need (records_of (closed P)) (Record.Start g v) (no_task_yet P) 2 _ λ o.
+    adds_need (records_of (closed P)) (Record.Start g v) (below P.regions g) 3 _ λ a.
+    adds_need (records_of (closed P)) (Record.Start g v) (is_word v) 3 _ λ b.
+    adds_need (records_of (closed P)) (Record.Start g v) (not (mem (value_of g) (started P.starts))) 6 _ λ c.
     let l : P.regions ≤ max_regions = leb-true _ _ G.regions in (
       start_adds P (value_of g) (value_of v) o ∙ rw (below_is P.regions g a, lies_is 0 max_word v b),
       rw (below_word P.regions g (omega arith) a, b),
     )
 step_adds (closed P) (Begin q k c) G =
-    adds_need _ _ (below P.ranks q) 3 _ λ a.
-    adds_need _ _ (lies 0 max_kernel k) 3 _ λ b.
-    adds_need _ _ (is_word c) 3 _ λ d.
-    adds_need _ _ (ltb (length P.tasks) max_tasks) 10 _ λ e.
+    adds_need (records_of (closed P)) (Begin q k c) (below P.ranks q) 3 _ λ a.
+    adds_need (records_of (closed P)) (Begin q k c) (lies 0 max_kernel k) 3 _ λ b.
+    adds_need (records_of (closed P)) (Begin q k c) (is_word c) 3 _ λ d.
+    adds_need (records_of (closed P)) (Begin q k c) (ltb (length P.tasks) max_tasks) 10 _ λ e.
     let l : P.ranks ≤ max_ranks = leb-true _ _ G.ranks in (
       rw (below_is P.ranks q a, lies_is 0 max_kernel k b, lies_is 0 max_word c d),
       rw (below_word P.ranks q (omega arith) a, lies_word 0 max_kernel k (omega arith) b, d),
@@ -128,12 +128,12 @@ step_adds (opened P t) (Loop p q n) G = tt
 step_adds (opened P t) (Record.Start g v) G = tt
 step_adds (opened P t) (Begin q k c) G = tt
 step_adds (opened P t) (Record.Access m g) G =
-    adds_need _ _ (below P.regions g) 3 _ λ a.
-    adds_need _ _ (ltb (length t.accesses) max_accesses) 10 _ λ b.
-    adds_need _ _ (not (mem (value_of g) (named t.accesses))) 6 _ λ c.
+    adds_need (records_of (opened P t)) (Record.Access m g) (below P.regions g) 3 _ λ a.
+    adds_need (records_of (opened P t)) (Record.Access m g) (ltb (length t.accesses) max_accesses) 10 _ λ b.
+    adds_need (records_of (opened P t)) (Record.Access m g) (not (mem (value_of g) (named t.accesses))) 6 _ λ c.
     let l : P.regions ≤ max_regions = leb-true _ _ G.0.regions in (
       access_adds P t m (value_of g) ∙ rw (below_is P.regions g a),
       below_word P.regions g (omega arith) a,
     )
-step_adds (opened P t) End G = adds_need _ _ (suits t.kernel (read_count t.accesses)) 9 _ λ a. (task_adds P t, refl)
+step_adds (opened P t) End G = adds_need (records_of (opened P t)) End (suits t.kernel (read_count t.accesses)) 9 _ λ a. (task_adds P t, refl)
 step_adds (opened P t) Unreadable G = tt

@@ -1,0 +1,21 @@
+use Prim.Native.Nat.{◌-◌, ◌≤◌}
+use mathlib.Core.Path.{◌≡◌, refl}
+use borrow.Author.Rules.{rules}
+use lib.ListN.{length, length-set}
+use Rattle.finite.specs.Update.{replaced}
+use Rattle.finite.proofs.Within.{within, within_filled_none, within_filled_done}
+use Rattle.plan.specs.Sizes.{first_unmet}
+use Rattle.plan.specs.Layout.{body_of}
+use Rattle.graph.proofs.Lookup.{fewer_few}
+use Rattle.steps.specs.Answers.{open_count}
+use Rattle.open_waits.specs.Sources.{ItemsPassed}
+use Rattle.open_waits.proofs.Opening.{passed_none, numbers_more}
+use Rattle.open_waits.proofs.open_numbers.Given as goal
+
+abbrev pub invariant-loop-a : goal.invariant-loop-a
+invariant-loop-a l =
+    (l.a ≤ l.n) × (length l.counts ≡ length l.initial.counts) × (l.counts ≡ replaced (within first_unmet l.a) (open_count (body_of l.plan)) l.initial.counts)
+    × ItemsPassed (body_of l.plan) l.a l.heads l.writers l.nexts l.seen
+
+abbrev pub decreases-loop-a : goal.decreases-loop-a
+decreases-loop-a l = l.n - l.a

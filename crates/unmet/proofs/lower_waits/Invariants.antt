@@ -1,0 +1,23 @@
+use Prim.Native.Nat.{◌+◌, ◌-◌, ◌≤◌}
+use mathlib.Core.Path.{◌≡◌, ap}
+use native.Mathlib.Omega.{arith}
+use borrow.Author.Rules.{rules}
+use lib.ListN.{length}
+use Rattle.body.specs.Places.{system}
+use Rattle.edges.specs.Tests.{edge_test}
+use Rattle.waits.specs.Stored.{lowered_to}
+use Rattle.waits.proofs.Stored.{lower_none, lower_done}
+use Rattle.plan.specs.Sizes.{first_unmet}
+use Rattle.plan.specs.Layout.{body_of}
+use Rattle.graph.proofs.Lookup.{passes_most, codes_few, own_passes_lem}
+use Rattle.steps.specs.State.{done_by}
+use Rattle.unmet.proofs.Marking.{lower_turn}
+use Rattle.unmet.proofs.lower_waits.Given as goal
+
+abbrev pub invariant-loop-a : goal.invariant-loop-a
+invariant-loop-a l =
+    (l.a ≤ l.n) × (length l.counts ≡ length l.initial.counts)
+    × (l.counts ≡ lowered_to (system (body_of l.plan)) (edge_test (body_of l.plan)) first_unmet (done_by l.initial.counts) l.b l.a l.initial.counts)
+
+abbrev pub decreases-loop-a : goal.decreases-loop-a
+decreases-loop-a l = l.n - l.a
