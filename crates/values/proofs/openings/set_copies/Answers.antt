@@ -14,10 +14,6 @@ use Rattle.values.proofs.openings.set_copies.Goals as goal
 pub loop-x-init : goal.loop-x-init
 loop-x-init c = search (rules, filled_none)
 
--- FIXME rem-starting-of nonzero-rem-starting-of
--- rem-starting-of c =
---     omega (arith, (facts c.args.plan.now c.requires.0).regions_least, c.as_index-regions.ensures, c.regions_of.ensures)
-
 pub starting_of-requires : goal.starting_of-requires
 starting_of-requires c =
     (search rules, start_room c.args.plan.now c.requires.0 _ _ (c.as_index-regions.ensures ∙ c.regions_of.ensures))

@@ -1,0 +1,18 @@
+use Prim.Native.Nat.{◌+◌, ◌-◌, ◌≤◌, ◌<◌}
+use mathlib.Core.Logic.{⊎_elim}
+use mathlib.Core.Path.{◌≡◌, refl, sym}
+use native.Mathlib.Omega.{arith}
+use borrow.Author.Rules.{rules}
+use lib.ListN.{length}
+use Rattle.plan.specs.Sizes.{max_items, max_edges}
+use Rattle.prepared.specs.Tables.{start_in, target_count, target_in}
+use Rattle.engine.proofs.Lowered.{Listed, listed_none, listed_few, listed_length, listed_more, listed_same, listed_done, target_read}
+use Rattle.engine.proofs.lowering.lower_into_list.Given as goal
+
+abbrev pub invariant-loop-k : goal.invariant-loop-k
+invariant-loop-k l =
+    (l.from ≡ start_in l.tables l.a) × (l.count ≡ target_count l.tables l.a) × (l.k ≤ l.count) × (length l.counts ≡ length l.initial.counts) × (l.at ≤ l.k + 1)
+    × Listed (target_in l.tables l.a) l.initial.counts l.initial.freed l.k l.counts l.at l.freed
+
+abbrev pub decreases-loop-k : goal.decreases-loop-k
+decreases-loop-k l = l.count - l.k

@@ -1,0 +1,20 @@
+use Prim.Native.Nat.{◌+◌, ◌-◌, ◌≤◌, ◌<◌}
+use mathlib.Core.Logic.{⊎_elim}
+use mathlib.Core.Path.{◌≡◌, refl, ◌∙◌, sym}
+use native.Mathlib.Omega.{arith}
+use borrow.Author.Rules.{rules}
+use borrow.Author.Tests.{eqb-true, eqb-false}
+use lib.ListN.{length}
+use Rattle.plan.specs.Sizes.{max_items, max_edges}
+use Rattle.steps.specs.State.{unmet_by}
+use Rattle.prepared.specs.Tables.{start_in, target_count, target_in}
+use Rattle.engine.proofs.Lowered.{Gathered, gathered_none, gathered_length, gathered_more, gathered_same, gathered_done, target_read}
+use Rattle.engine.proofs.lowering.lower_into_set.Given as goal
+
+abbrev pub invariant-loop-k : goal.invariant-loop-k
+invariant-loop-k l =
+    (l.from ≡ start_in l.tables l.a) × (l.count ≡ target_count l.tables l.a) × (l.k ≤ l.count) × (length l.counts ≡ length l.initial.counts)
+    × Gathered (target_in l.tables l.a) l.initial.counts l.initial.words l.k l.counts l.words
+
+abbrev pub decreases-loop-k : goal.decreases-loop-k
+decreases-loop-k l = l.count - l.k

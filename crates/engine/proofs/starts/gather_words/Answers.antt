@@ -1,0 +1,60 @@
+use Prim.Native.Nat.{ℕ, ◌+◌, ◌*◌, ◌-◌, ◌≤◌, ◌<◌}
+use mathlib.Core.Path.{◌≡◌, refl, sym, ◌∙◌, ap}
+use native.Mathlib.Omega.{arith}
+use borrow.Author.Rules.{rules}
+use lib.ListN.{length, get_or, take, length-set}
+use Rattle.finite.specs.Lists.{tabulate}
+use Rattle.finite.proofs.Lists.{tabulate_none, tabulate_more}
+use Rattle.plan.specs.Limits.{max_accesses}
+use Rattle.plan.specs.Sizes.{first_held}
+use Rattle.prepared.specs.Tables.{first_read, place_count, place_in}
+use Rattle.engine.proofs.Rows.{place_read, place_small, words_gathered}
+use Rattle.engine.proofs.starts.gather_words.Goals as goal
+use Rattle.engine.proofs.starts.gather_words.Goals.{After-index_16}
+
+pub loop-k-init : goal.loop-k-init
+loop-k-init c =
+    (refl, place_read c.args.tables.now first_read c.args.a 8 _ c.index_16-count.ensures, omega arith, c.requires.4, tabulate_none (λ j. get_or c.args.values.now (place_in c.args.tables.now first_read c.args.a j) 0) c.args.words.now)
+
+pub bounds-tables-row-in-loop-k : goal.bounds-tables-row-in-loop-k
+bounds-tables-row-in-loop-k c =
+    omega (arith, c.requires.2.few)
+
+-- the place that a turn reads
+below : (c : After-index_16) → c.index_16.result < first_held
+below c =
+    let l = c.loop-k in
+    place_small c.args.tables.now first_read c.args.a c.requires.2 l.k _ (omega (arith, l.invariant.1, c.loop-k-test.true)) c.index_16.ensures
+
+pub offset_bounds-values-index_16 : goal.offset_bounds-values-index_16
+offset_bounds-values-index_16 c = omega (arith, below (goal.at.offset_bounds-values-index_16 c).After-index_16)
+
+pub bounds-values-index_16 : goal.bounds-values-index_16
+bounds-values-index_16 c = omega (arith, c.requires.3, below (goal.at.bounds-values-index_16 c).After-index_16)
+
+pub bounds-words-k : goal.bounds-words-k
+bounds-words-k c =
+    omega (arith, c.requires.2.few, c.loop-k.invariant.1, c.loop-k.invariant.3, c.loop-k-test.true)
+
+pub loop-k-preserved : goal.loop-k-preserved
+loop-k-preserved c =
+    let l = c.loop-k in
+    let W = c.args.values.now in (
+      l.invariant.0,
+      l.invariant.1,
+      omega (arith, c.loop-k-test.true),
+      simp length-set l.invariant.3,
+      tabulate_more (λ j. get_or W (place_in c.args.tables.now first_read c.args.a j) 0) l.k _ l.words l.invariant.4
+          (omega (arith, c.requires.2.few, l.invariant.1, l.invariant.3, c.loop-k-test.true))
+          (ap (λ (x : ℕ). get_or W x 0) (place_read c.args.tables.now first_read c.args.a l.k _ c.index_16.ensures)),
+    )
+
+pub returns : goal.returns
+returns c =
+    let l = c.loop-k in
+    let e : c.index_16-count.result ≡ l.k = omega (arith, l.invariant.2, c.loop-k-test.false) in (
+      words_gathered c.args.tables.now first_read c.args.a (λ x. get_or c.args.values.now x 0) l.k _ (ap (λ (n : ℕ). take n l.words) e ∙ l.invariant.4)
+          (sym e ∙ l.invariant.1),
+      omega (arith, c.requires.2.few, l.invariant.1),
+      l.invariant.3,
+    )

@@ -1,0 +1,20 @@
+use Prim.Native.Nat.{ℕ, ◌+◌, ◌*◌, ◌-◌, ◌≤◌, ◌<◌}
+use mathlib.Core.Path.{◌≡◌, refl, sym, ◌∙◌, ap}
+use native.Mathlib.Omega.{arith}
+use borrow.Author.Rules.{rules}
+use lib.ListN.{length, get_or, take, length-set}
+use Rattle.finite.specs.Lists.{tabulate}
+use Rattle.finite.proofs.Lists.{tabulate_none, tabulate_more}
+use Rattle.plan.specs.Limits.{max_accesses}
+use Rattle.plan.specs.Sizes.{first_held}
+use Rattle.prepared.specs.Tables.{first_read, place_count, place_in}
+use Rattle.engine.proofs.Rows.{place_read, place_small, words_gathered}
+use Rattle.engine.proofs.starts.gather_words.Given as goal
+
+abbrev pub invariant-loop-k : goal.invariant-loop-k
+invariant-loop-k l =
+    (l.row ≡ first_read + 9 * l.a) × (l.count ≡ place_count l.tables first_read l.a) × (l.k ≤ l.count) × (length l.words ≡ max_accesses)
+    × (take l.k l.words ≡ tabulate l.k (λ j. get_or l.values (place_in l.tables first_read l.a j) 0))
+
+abbrev pub decreases-loop-k : goal.decreases-loop-k
+decreases-loop-k l = l.count - l.k

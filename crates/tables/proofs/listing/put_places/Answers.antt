@@ -1,0 +1,8 @@
+use mathlib.Core.Path.{refl}
+use borrow.Author.Rules.{rules}
+use Rattle.tables.proofs.Listed.{rows_added}
+use Rattle.tables.proofs.listing.put_places.Goals as goal
+
+pub returns : goal.returns
+returns c =
+    rows_added _ _ _ _ _ _ refl c.requires.1 c.list_places.ensures

@@ -1,0 +1,17 @@
+use Prim.Native.Nat.{◌+◌, ◌-◌, ◌≤◌}
+use mathlib.Core.Path.{◌≡◌}
+use borrow.Author.Rules.{rules}
+use Rattle.finite.specs.Below.{any_below}
+use Rattle.finite.proofs.Below.{any_none, any_more, any_done}
+use Rattle.tables.specs.Targets.{is_marked}
+use Rattle.tables.proofs.targets.any_marked.Goals as goal
+
+pub loop-k-init : goal.loop-k-init
+loop-k-init c = search (rules, any_none)
+
+pub loop-k-preserved : goal.loop-k-preserved
+unfolding is_marked
+loop-k-preserved c = search (rules, any_more)
+
+pub returns : goal.returns
+returns c = search (rules, any_done)

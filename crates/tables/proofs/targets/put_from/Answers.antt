@@ -1,0 +1,14 @@
+use native.Mathlib.Omega.{arith}
+use borrow.Author.Rules.{rules}
+use Rattle.tables.proofs.Targeted.{from_fits, from_put}
+use Rattle.tables.proofs.targets.put_from.Goals as goal
+
+pub put_row-requires : goal.put_row-requires
+put_row-requires c =
+    let G = c.requires.0 in
+    (from_fits _ _ _ _ c.mark_row.ensures (omega (arith, G.most)) _ _ G.count c.requires.2, G.most, c.requires.3)
+
+pub returns : goal.returns
+returns c =
+    let G = c.requires.0 in
+    from_put _ _ _ _ c.mark_row.ensures (omega (arith, G.most)) _ _ _ _ _ _ G.count c.put_row.ensures

@@ -1,0 +1,11 @@
+use Prim.Native.Nat.{◌-◌}
+use borrow.Author.Rules.{rules}
+use Rattle.tables.specs.Targets.{Passed}
+use Rattle.tables.proofs.Targeted.{passed_none, passed_block}
+use Rattle.tables.proofs.targets.skip_blocks.Goals as goal
+
+pub loop-at-init : goal.loop-at-init
+loop-at-init c = search (rules, passed_none)
+
+pub loop-at-preserved : goal.loop-at-preserved
+loop-at-preserved c = search (rules, passed_block)
