@@ -1,0 +1,14 @@
+use Prim.Native.Nat.{◌-◌, ◌≤◌}
+use mathlib.Core.Path.{◌≡◌}
+use native.Mathlib.Omega.{arith}
+use borrow.Author.Rules.{rules}
+use lib.ListN.{length, length-set}
+use Rattle.finite.specs.Update.{replaced}
+use Rattle.doors.proofs.Counting.{counts_below, counts_none, counts_more, counts_done}
+use Rattle.doors.proofs.counts.clear_counts.Given as goal
+
+abbrev pub invariant-loop-a : goal.invariant-loop-a
+invariant-loop-a l = (l.a ≤ l.n) × (length l.counts ≡ length l.initial.counts) × (l.counts ≡ replaced (counts_below l.a) (λ i. 0) l.initial.counts)
+
+abbrev pub decreases-loop-a : goal.decreases-loop-a
+decreases-loop-a l = l.n - l.a

@@ -1,0 +1,8 @@
+use borrow.Author.Rules.{rules}
+use Rattle.ranges.specs.Numbers.{item_in}
+use Rattle.ranges.proofs.item_of.Goals as goal
+
+pub returns : goal.returns
+unfolding item_in
+returns c =
+    rw (c.own_of.ensures, c.passes_of-passes.ensures, c.wide_16.ensures.0)
