@@ -5,4 +5,3 @@ pub mod Same
 pub mod Loops
 pub mod Moves
 pub mod Ends
-pub mod Again

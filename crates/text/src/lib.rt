@@ -504,7 +504,7 @@ fn next_at(found: RecordAt, at: usize) -> usize
 
 // The line reader: it keeps the lent text and the offset of the next line. Its methods put it
 // together and take it apart; `record_at` and `next_at` do the work.
-#[derive(Drop)]
+#[derive(Clone, Copy)]
 pub struct LineReader<'a> {
     text: &'a [u8],
     at: usize,

@@ -1,0 +1,6 @@
+use borrow.Author.Rules.{rules}
+use Rattle.calls.proofs.Listed.{drawn}
+use Rattle.calls.proofs.drawing.list_edges.Goals as goal
+
+pub returns : goal.returns
+returns c = drawn _ _ _ c.requires.0 _ _ _ c.put_edges.ensures

@@ -1,0 +1,16 @@
+use Prim.Native.Nat.{◌-◌, ◌≤◌}
+use mathlib.Core.Path.{◌≡◌}
+use mathlib.Core.List.{◌++◌}
+use native.Mathlib.Omega.{arith}
+use borrow.Author.Rules.{rules}
+use lib.ListN.{length, drop, replicate, length-set}
+use Rattle.finite.proofs.Lists.{replicate_more, replicate_done}
+use Rattle.reader.proofs.clear.Goals as goal
+
+pub loop-i-preserved : goal.loop-i-preserved
+loop-i-preserved c =
+    (search rules, simp length-set (search rules), replicate_more 0 c.loop-i.i c.args.words.now c.loop-i.words c.loop-i.invariant.2 (omega arith))
+
+pub returns : goal.returns
+returns c =
+    replicate_done 0 c.loop-i.i c.args.words.now c.loop-i.words c.loop-i.invariant.2 (omega arith) (omega arith)

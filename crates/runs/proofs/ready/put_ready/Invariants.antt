@@ -1,0 +1,16 @@
+use Prim.Native.Nat.{◌+◌, ◌-◌, ◌≤◌, ◌<◌}
+use mathlib.Core.Path.{◌≡◌}
+use mathlib.Core.Logic.{⊎_elim}
+use native.Mathlib.Omega.{arith}
+use borrow.Author.Rules.{rules}
+use lib.ListN.{length}
+use Rattle.plan.specs.Sizes.{max_items}
+use Rattle.masks.specs.Masks.{mask_words, Entered}
+use Rattle.runs.proofs.Readying.{ready_below, below_none, below_out, below_more, below_less, below_done}
+use Rattle.runs.proofs.ready.put_ready.Given as goal
+
+abbrev pub invariant-loop-b : goal.invariant-loop-b
+invariant-loop-b l = (l.b ≤ l.n) × (length l.words ≡ mask_words) × Entered l.initial.words (ready_below l.plan l.counts l.b) l.words
+
+abbrev pub decreases-loop-b : goal.decreases-loop-b
+decreases-loop-b l = l.n - l.b

@@ -1,0 +1,7 @@
+use borrow.Author.Rules.{rules}
+use Rattle.runs.proofs.Opened.{tables_made}
+use Rattle.runs.proofs.run_opened.Goals as goal
+
+pub take_turns-requires : goal.take_turns-requires
+take_turns-requires c =
+    (c.requires.0, tables_made _ _ _ c.requires.0 _ _ c.make_tables.ensures, c.requires.1)

@@ -1,0 +1,17 @@
+use Prim.Native.Nat.{◌-◌, ◌≤◌, ◌<◌}
+use native.Mathlib.Omega.{arith}
+use borrow.Author.Rules.{rules}
+use Rattle.finite.specs.Lists.{collect}
+use Rattle.finite.specs.Put.{Added}
+use Rattle.finite.proofs.Puts.{collect_none, collect_fits, collect_more, collect_done}
+use Rattle.plan.specs.Layout.{tasks_of}
+use Rattle.plan.proofs.Facts.{formed}
+use Rattle.graph.proofs.Small.{form_words}
+use Rattle.writer.specs.Parts.{task_lines}
+use Rattle.writer.proofs.lines.put_tasks.Given as goal
+
+abbrev pub invariant-loop-i : goal.invariant-loop-i
+invariant-loop-i l = (l.i ≤ l.tasks) × Added (collect l.i (task_lines l.words)) l.at l.initial.out l.end l.out
+
+abbrev pub decreases-loop-i : goal.decreases-loop-i
+decreases-loop-i l = l.tasks - l.i
