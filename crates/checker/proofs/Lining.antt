@@ -77,14 +77,18 @@ module _ (P T journal : List ℕ) (s₀ : Lent) where
             ∙ (ap (check_lines (call_in P T) P s (held + 1)) (sym (line_found journal at l is size).0) ∙ R)
 
         module _ (o : Option Step) (r : ℕ) (t : Lent) (said : o ≡ step_of (take (length l - 1) l)) (L : Lined P T s o r t) where
+          -- the check of the lines behind this one
+          abbrev rest : Lent → Left
+          rest t = check_lines (call_in P T) P t (suc (held + 1)) (split 10 (drop (at + length l) journal))
+
           lined : Lined P T s (step_of (take (length l - 1) l)) r t
           lined = subst (λ (x : Option Step). Lined P T s x r t) said L
 
           pub lines_stop : (r ≡ 0 → ⊥) → (q : Number) → q ≡ record { refusal = r; number = held + 1 } → told_check q t.counts t.values ≡ check_from (call_in P T) P s₀ journal
-          lines_stop h q e = ap (λ (x : Number). told_check x t.counts t.values) e ∙ line_refused P T _ s (held + 1) r t (step_of (take (length l - 1) l)) lined h ∙ found
+          lines_stop h q e = ap (λ (x : Number). told_check x t.counts t.values) e ∙ line_refused P T rest s (held + 1) r t (step_of (take (length l - 1) l)) lined h ∙ found
 
           pub lines_more : r ≡ 0 → Reached t (at + length l) (held + 1)
-          lines_more z = rw (add-one (held + 1)) (line_held P T _ s (held + 1) r t (step_of (take (length l - 1) l)) lined z ∙ found)
+          lines_more z = rw (add-one (held + 1)) (line_held P T rest s (held + 1) r t (step_of (take (length l - 1) l)) lined z ∙ found)
 
     -- every line held
     pub lines_over : length journal ≤ at → passed P s ≡ check_from (call_in P T) P s₀ journal
