@@ -1,0 +1,16 @@
+use Prim.Native.Nat.{◌*◌, ◌-◌, ◌≤◌}
+use mathlib.Core.Path.{◌≡◌, refl}
+use native.Mathlib.Omega.{arith}
+use borrow.Author.Rules.{rules}
+use lib.ListN.{length, length-set}
+use Rattle.steps.specs.Calls.{lent}
+use Rattle.taskiter.proofs.Playing.{play_room, play_long, played_short, Rest, rest_none, rest_more, played_done}
+use Rattle.taskiter.proofs.taskiter_play.Given as goal
+
+abbrev pub invariant-loop-k : goal.invariant-loop-k
+invariant-loop-k l =
+    Rest l.plan (lent l.initial.counts l.initial.values) l.calls l.initial.answers (lent l.counts l.values) l.answers l.k × (2 * length l.calls ≤ length l.answers) × (length l.counts ≡ length l.initial.counts) ×
+    (length l.values ≡ length l.initial.values) × (length l.answers ≡ length l.initial.answers)
+
+abbrev pub decreases-loop-k : goal.decreases-loop-k
+decreases-loop-k l = length l.calls - l.k
