@@ -80,7 +80,7 @@ extern "C" {
    names. So a host asks once, before its other calls, whether taskiter_version answers
    TASKITER_VERSION: then the runtime that it is linked with has the version of the header that it
    was compiled with. CHANGELOG.md says what each version changes. */
-#define TASKITER_VERSION 7
+#define TASKITER_VERSION 6
 uint64_t taskiter_version(void);
 
 /* A text has at most so many bytes. It has no NUL at its end: one that is counted is a line not in

@@ -28,7 +28,7 @@ use plan::state::{Count, MAX_ITEMS};
 use prepared::PREPARED;
 use ranges::{finish_refusal_known, start_refusal_known};
 use tables::make_tables;
-use text::line_at;
+use text::line_from;
 
 // Room for the items that a finish makes ready, and their number.
 const FREED: usize = 641;
@@ -128,7 +128,7 @@ fn check_lines(
     let mut at: usize = 0;
     let mut held: u64 = 0;
     while at < journal.len() {
-        let line = line_at(journal, at);
+        let line = line_from(journal, at);
         let size = line.len();
         if size == 0 {
             return refused_behind(20, held);

@@ -6,7 +6,7 @@ use Rattle.text.specs.Numbers.{is_digit, all_digits, no_leading_zero, well_forme
 use Rattle.text.specs.Digits.{digits}
 use Rattle.text.specs.declared.Number.TheVariants.{Value, TooLarge, Malformed}
 use Rattle.text.proofs.NumberLaws.{zero_one, number_malformed, number_value, number_large}
-use Rattle.text.proofs.Decimal.{digits_of, digits_most, below}
+use Rattle.text.proofs.DecimalLaws.{digits_of, digits_most, below}
 use Rattle.text.proofs.Fields.{number_back}
 use Rattle.plan.specs.Limits.{max_word}
 use Rattle.entries.specs.Scan.{head_is, head_digit, Read, Run, Long, Numbered, Fielded, Last}

@@ -5,7 +5,7 @@ use lib.ListN.{get_or-append}
 use Rattle.finite.proofs.Tests.{and-true, and_intro, not_both}
 use Rattle.text.specs.Numbers.{is_digit, all_digits, no_leading_zero}
 use Rattle.text.proofs.NumberLaws.{DigitAt, TenTimes, ten_times, digit_at, zero_more}
-use Rattle.text.proofs.Decimal.{decimal_snoc, digits_snoc}
+use Rattle.text.proofs.DecimalLaws.{decimal_snoc, digits_snoc}
 use Rattle.plan.specs.Limits.{max_word}
 use Rattle.entries.specs.Scan.{head_digit, Read}
 

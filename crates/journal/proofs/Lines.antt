@@ -15,7 +15,7 @@ use Rattle.text.specs.Numbers.{number_of}
 use Rattle.text.specs.Records.{split, one_of, two_of}
 use Rattle.text.specs.Digits.{digits}
 use Rattle.text.proofs.WordLaws.{alike_same}
-use Rattle.text.proofs.Decimal.{digits_of}
+use Rattle.text.proofs.DecimalLaws.{digits_of}
 use Rattle.text.proofs.Fields.{lacks, lacks_append, lack1, split1, split2, split_at, join, join_split, one_fields, two_fields, value_word, number_back}
 use Rattle.journal.specs.Lines.{Step, start, finish, start_from, finish_from, start_line, step_fields, step_of}
 use Rattle.journal.specs.Written.{line_of}

@@ -14,7 +14,7 @@ use Rattle.finite.specs.Put.{Added, RoomAt}
 use Rattle.finite.proofs.Puts.{added, sets_last}
 use Rattle.text.specs.declared.Number.TheVariants.{Value}
 use Rattle.text.specs.Digits.{decimal, digits}
-use Rattle.text.proofs.Decimal.{below, digits_most}
+use Rattle.text.proofs.DecimalLaws.{below, digits_most}
 
 -- one step more changes nothing where the steps are enough
 decimal_enough : (k n : ℕ) → n < 10 ^ suc k → decimal (suc k) n ≡ decimal k n

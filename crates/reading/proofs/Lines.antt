@@ -15,7 +15,7 @@ use Rattle.text.specs.Records.{record_of}
 use Rattle.text.specs.Words.{keyword_of}
 use Rattle.reading.specs.Reading.{is_word}
 use Rattle.text.specs.Digits.{digits}
-use Rattle.text.proofs.Decimal.{Digits, digits_of}
+use Rattle.text.proofs.DecimalLaws.{Digits, digits_of}
 use Rattle.text.proofs.Fields.{lacks, lacks_append, lack1, split1, split2, split3}
 use Rattle.plan.specs.Limits.{max_word}
 use Rattle.reading.specs.Written.{line}

@@ -20,7 +20,7 @@ use Rattle.reading.specs.Plan.{Access, Plan, Start, Task}
 use Rattle.reading.specs.Reading.{is_word}
 use Rattle.reading.specs.Valid.{access_fits, every, in_word, open_fits, start_fits, task_fits}
 use Rattle.text.specs.Digits.{digits}
-use Rattle.text.proofs.Decimal.{below, digits_most, limit}
+use Rattle.text.proofs.DecimalLaws.{below, digits_most, limit}
 use Rattle.reading.specs.Written.{Rising, access_records, line, records, start_records, task_records, text_from}
 use Rattle.reading.proofs.Limits.{Limits, opens}
 use Rattle.reading.proofs.Lines.{plain}

@@ -111,9 +111,9 @@ pub extern "C" fn taskiter_write(plan: &[u64], text: &mut [u8]) -> Number
 // The version of this interface: TASKITER_VERSION of the header.
 #[unsafe(no_mangle)]
 pub extern "C" fn taskiter_version() -> u64
-    ensures { result ≡ 7 }
+    ensures { result ≡ 6 }
 {
-    7
+    6
 }
 
 // Opens a lent state for a plan; answers the refusal, 0 if there is none.

@@ -11,7 +11,7 @@ use Rattle.text.specs.Numbers.{all_digits, decimal_after, is_digit, no_leading_z
 use Rattle.text.specs.Digits.{decimal, digits}
 use Rattle.text.specs.Records.{one_of, onto, pair, sound, split, three_of, two_of}
 use Rattle.text.proofs.SplitLaws.{split_cons}
-use Rattle.text.proofs.Decimal.{Digits, decimal_back}
+use Rattle.text.proofs.DecimalLaws.{Digits, decimal_back}
 
 -- no byte of it is b
 abbrev pub lacks : ℕ → List ℕ → Bool

@@ -1,7 +1,7 @@
 pub mod Laws
 pub mod MarkLaws
 pub mod NumberLaws
-pub mod Decimal
+pub mod DecimalLaws
 pub mod WordLaws
 pub mod SplitLaws
 pub mod Fields

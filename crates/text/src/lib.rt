@@ -156,7 +156,7 @@ pub fn wide(x: u8) -> u64
 }
 
 // The number that at most 19 digits write: a word holds any such number, so no digit needs a test.
-fn value_of(f: &[u8]) -> u64
+fn decimal(f: &[u8]) -> u64
     requires { (length f.now ≤ 19) × (all_digits f.now ≡ true) }
     ensures { result ≡ decimal_after 0 f.now }
 {
@@ -177,9 +177,9 @@ pub fn number_of(f: &[u8]) -> Number
         return Number::Malformed;
     }
     if f.len() < 20 {
-        return Number::Value(value_of(f));
+        return Number::Value(decimal(f));
     }
-    let most = value_of(&f[..19]);
+    let most = decimal(&f[..19]);
     let last = wide(f[19] - 48);
     if (18446744073709551615 - last) / 10 < most {
         return Number::TooLarge;
@@ -465,7 +465,7 @@ pub fn record_of(line: &[u8]) -> Record
 
 // The line that starts at `at`, with its line feed, as a part of the caller's text: nothing where
 // no line feed follows, and beyond the end.
-pub fn line_at(s: &[u8], at: usize) -> &[u8]
+pub fn line_from(s: &[u8], at: usize) -> &[u8]
     ensures { result.now ≡ line_at s.now at }
 {
     let t = behind(s, at);
@@ -478,10 +478,10 @@ pub fn line_at(s: &[u8], at: usize) -> &[u8]
 
 // What the line that starts at `at` says, and where the next one starts. Unended where no line feed
 // follows, and beyond the end.
-fn record_at(s: &[u8], at: usize) -> RecordAt
+fn line_at(s: &[u8], at: usize) -> RecordAt
     ensures { result ≡ record_at s.now at }
 {
-    let line = line_at(s, at);
+    let line = line_from(s, at);
     let n = line.len();
     if n == 0 {
         return RecordAt::Unended;
@@ -503,7 +503,7 @@ fn next_at(found: RecordAt, at: usize) -> usize
 }
 
 // The line reader: it keeps the lent text and the offset of the next line. Its methods put it
-// together and take it apart; `record_at` and `next_at` do the work.
+// together and take it apart; `line_at` and `next_at` do the work.
 #[derive(Clone, Copy)]
 pub struct LineReader<'a> {
     text: &'a [u8],
@@ -531,7 +531,7 @@ impl<'a> LineReader<'a> {
             × (self.new.at ≡ next_at self.old.text.now self.old.at) }
     {
         let at = self.at;
-        let found = record_at(self.text, at);
+        let found = line_at(self.text, at);
         self.at = next_at(found, at);
         found
     }

@@ -13,24 +13,24 @@ use Rattle.checker.proofs.check_lines.Goals.{Else-size-eq0}
 
 -- a line lies within the journal
 inside : (c : Else-size-eq0) →
-    (1 ≤ length c.line_at-line.result.now) × (c.loop-at.at + length c.line_at-line.result.now ≤ length c.args.journal.now)
+    (1 ≤ length c.line_from-line.result.now) × (c.loop-at.at + length c.line_from-line.result.now ≤ length c.args.journal.now)
 inside c =
-    let size : 1 ≤ length c.line_at-line.result.now = omega (arith, c.if-size-eq0.false) in
-    (size, (line_found _ _ _ c.line_at-line.ensures size).1)
+    let size : 1 ≤ length c.line_from-line.result.now = omega (arith, c.if-size-eq0.false) in
+    (size, (line_found _ _ _ c.line_from-line.ensures size).1)
 
 pub loop-at-init : goal.loop-at-init
 loop-at-init c = (refl, search rules, search rules, refl, refl)
 
 pub returns-then-size-eq0 : goal.returns-then-size-eq0
 returns-then-size-eq0 c =
-    lines_unended c.args.plan.now c.args.tables.now c.args.journal.now _ _ _ _ c.loop-at.invariant.0 _ c.line_at-line.ensures c.loop-at-test.true c.if-size-eq0.true _ c.refused_behind.ensures
+    lines_unended c.args.plan.now c.args.tables.now c.args.journal.now _ _ _ _ c.loop-at.invariant.0 _ c.line_from-line.ensures c.loop-at-test.true c.if-size-eq0.true _ c.refused_behind.ensures
 
 pub slice_bounds-entry_of-length : goal.slice_bounds-entry_of-length
 slice_bounds-entry_of-length c = sym (length-take-le _ _ (omega arith))
 
 pub returns-then-refusal-ne0 : goal.returns-then-refusal-ne0
 returns-then-refusal-ne0 c =
-    lines_stop c.args.plan.now c.args.tables.now c.args.journal.now _ (lent c.loop-at.counts c.loop-at.values) c.loop-at.at c.loop-at.held c.loop-at.invariant.0 _ c.line_at-line.ensures (inside (goal.at.returns-then-refusal-ne0 c).Else-size-eq0).0 _ _ _ c.entry_of.ensures c.check_entry-refusal.ensures c.if-refusal-ne0.true _
+    lines_stop c.args.plan.now c.args.tables.now c.args.journal.now _ (lent c.loop-at.counts c.loop-at.values) c.loop-at.at c.loop-at.held c.loop-at.invariant.0 _ c.line_from-line.ensures (inside (goal.at.returns-then-refusal-ne0 c).Else-size-eq0).0 _ _ _ c.entry_of.ensures c.check_entry-refusal.ensures c.if-refusal-ne0.true _
     c.refused_behind-then-refusal-ne0.ensures
 
 pub overflow_add-at : goal.overflow_add-at
@@ -43,7 +43,7 @@ pub loop-at-preserved : goal.loop-at-preserved
 loop-at-preserved c =
     let k = inside (goal.at.loop-at-preserved c).Else-size-eq0 in
     let r = c.check_entry-refusal.ensures.room in (
-      lines_more c.args.plan.now c.args.tables.now c.args.journal.now _ _ _ _ c.loop-at.invariant.0 _ c.line_at-line.ensures k.0 _ _ _ c.entry_of.ensures
+      lines_more c.args.plan.now c.args.tables.now c.args.journal.now _ _ _ _ c.loop-at.invariant.0 _ c.line_from-line.ensures k.0 _ _ _ c.entry_of.ensures
           c.check_entry-refusal.ensures c.if-refusal-ne0.false,
       k.1,
       omega (arith, k.0, c.loop-at.invariant.2),

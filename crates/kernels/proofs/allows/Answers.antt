@@ -1,4 +1,3 @@
-use Rattle.std.proofs.Common.{rules}
 use Rattle.kernels.proofs.allows.Goals as goal
 
 pub returns-in-Exactly : goal.returns-in-Exactly

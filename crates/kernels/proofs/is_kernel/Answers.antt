@@ -1,4 +1,4 @@
-use Rattle.std.proofs.Common.{sym, ap, ◌∙◌, rules}
+use Rattle.std.proofs.Common.{sym, ap, ◌∙◌}
 use Rattle.kernels.specs.Kernels.{is_known, is_kernel}
 use Rattle.kernels.proofs.is_kernel.Goals as goal
 

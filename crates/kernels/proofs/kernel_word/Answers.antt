@@ -1,4 +1,4 @@
-use Rattle.std.proofs.Common.{sym, ap, ◌∙◌, rules}
+use Rattle.std.proofs.Common.{sym, ap, ◌∙◌}
 use Rattle.kernels.specs.Kernels.{computes, kernel_word}
 use Rattle.kernels.proofs.kernel_word.Goals as goal
 

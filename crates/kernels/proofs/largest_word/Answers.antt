@@ -1,5 +1,4 @@
-use Rattle.std.proofs.Common.{◌≡◌, ◌-◌, ◌≤◌, length, take, rules}
-use Rattle.kernels.specs.Kernels.{largest}
+use Rattle.std.proofs.Common.{rules}
 use Rattle.kernels.proofs.Laws.{largest_none, largest_more, largest_done}
 use Rattle.kernels.proofs.largest_word.Goals as goal
 

@@ -1,6 +1,5 @@
-use Rattle.std.proofs.Common.{◌≡◌, ◌-◌, ◌≤◌, length, take, rules}
+use Rattle.std.proofs.Common.{◌≡◌, ◌-◌, ◌≤◌, length, take}
 use Rattle.kernels.specs.Kernels.{largest}
-use Rattle.kernels.proofs.Laws.{largest_none, largest_more, largest_done}
 use Rattle.kernels.proofs.largest_word.Given as goal
 
 abbrev pub invariant-loop-i : goal.invariant-loop-i

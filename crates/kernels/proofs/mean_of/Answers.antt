@@ -1,4 +1,3 @@
-use Rattle.std.proofs.Common.{rules}
 use Rattle.kernels.proofs.Mean.{four_parts}
 use Rattle.kernels.proofs.mean_of.Goals as goal
 

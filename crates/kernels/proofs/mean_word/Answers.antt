@@ -1,4 +1,3 @@
-use Rattle.std.proofs.Common.{rules}
 use Rattle.kernels.proofs.mean_word.Goals as goal
 
 pub returns : goal.returns

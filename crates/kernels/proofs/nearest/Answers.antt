@@ -1,4 +1,4 @@
-use Rattle.std.proofs.Common.{arith, rules}
+use Rattle.std.proofs.Common.{arith}
 use Rattle.kernels.proofs.Mean.{quarter_down}
 use Rattle.kernels.proofs.nearest.Goals as goal
 

@@ -1,4 +1,4 @@
-use Rattle.std.proofs.Common.{sym, ◌∙◌, rules}
+use Rattle.std.proofs.Common.{sym, ◌∙◌}
 use Rattle.kernels.specs.declared.Kernel.TheVariants.{Known, Unknown}
 use Rattle.kernels.proofs.Laws.{suits_by}
 use Rattle.kernels.proofs.suits_kernel.Goals as goal

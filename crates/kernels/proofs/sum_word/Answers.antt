@@ -1,5 +1,4 @@
-use Rattle.std.proofs.Common.{◌≡◌, ◌-◌, ◌≤◌, length, take, rules}
-use Rattle.kernels.specs.Kernels.{sum_word}
+use Rattle.std.proofs.Common.{rules}
 use Rattle.kernels.proofs.Laws.{sum_none, sum_more, sum_done}
 use Rattle.kernels.proofs.sum_word.Goals as goal
 

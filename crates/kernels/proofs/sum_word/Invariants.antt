@@ -1,6 +1,5 @@
-use Rattle.std.proofs.Common.{◌≡◌, ◌-◌, ◌≤◌, length, take, rules}
+use Rattle.std.proofs.Common.{◌≡◌, ◌-◌, ◌≤◌, length, take}
 use Rattle.kernels.specs.Kernels.{sum_word}
-use Rattle.kernels.proofs.Laws.{sum_none, sum_more, sum_done}
 use Rattle.kernels.proofs.sum_word.Given as goal
 
 abbrev pub invariant-loop-i : goal.invariant-loop-i

@@ -1,4 +1,3 @@
-use Rattle.std.proofs.Common.{rules}
 use Rattle.kernels.proofs.word_by.Goals as goal
 
 pub returns-in-Sum : goal.returns-in-Sum

@@ -1,5 +1,5 @@
 use borrow.Author.Rules.{rules}
-use Rattle.output.proofs.Numbers.{Counted, counted_none, counted_more_lem}
+use Rattle.output.proofs.Numbers.{counted_none, counted_more_lem}
 use Rattle.output.proofs.digit_count.Goals as goal
 
 pub loop-rest-init : goal.loop-rest-init

@@ -1,5 +1,4 @@
-use borrow.Author.Rules.{rules}
-use Rattle.output.proofs.Numbers.{Counted, counted_none, counted_more_lem}
+use Rattle.output.proofs.Numbers.{Counted}
 use Rattle.output.proofs.digit_count.Given as goal
 
 abbrev pub invariant-loop-rest : goal.invariant-loop-rest

@@ -1,8 +1,4 @@
-use Prim.Native.Nat.{◌+◌, ◌-◌, ◌≤◌}
-use mathlib.Core.Path.{◌≡◌}
 use borrow.Author.Rules.{rules}
-use lib.ListN.{length, drop}
-use lib.Seq.{sets}
 use Rattle.finite.proofs.Puts.{copy_none, copy_more, copy_done}
 use Rattle.output.proofs.put_bytes.Goals as goal
 

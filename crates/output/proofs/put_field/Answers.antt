@@ -15,4 +15,3 @@ put_number-requires c = room_rest (added_one refl) c.requires
 
 pub returns : goal.returns
 returns c = added_append (added_one refl) c.put_number.ensures
-

@@ -1,9 +1,6 @@
 use mathlib.Core.Path.{refl}
 use mathlib.Core.List.{[], ◌∷◌}
-use native.Mathlib.Omega.{arith}
-use borrow.Author.Rules.{rules}
-use Rattle.finite.specs.Put.{RoomAt}
-use Rattle.finite.proofs.Puts.{added_append, added_one, room_first, room_rest}
+use Rattle.finite.proofs.Puts.{added_append, added_one, room_first}
 use Rattle.output.proofs.put_last.Goals as goal
 
 pub put_field-end-requires : goal.put_field-end-requires

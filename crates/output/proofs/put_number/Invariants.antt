@@ -1,10 +1,9 @@
 use Prim.Native.Nat.{◌+◌}
 use mathlib.Core.Path.{◌≡◌}
-use borrow.Author.Rules.{rules}
 use lib.ListN.{length}
 use Rattle.text.specs.declared.Number.TheVariants.{Value}
 use Rattle.text.specs.Digits.{digits}
-use Rattle.output.proofs.Numbers.{Left, left_all_lem, left_two, left_less, left_one, left_last, left_pair}
+use Rattle.output.proofs.Numbers.{Left}
 use Rattle.output.proofs.put_number.Given as goal
 
 abbrev pub invariant-loop-rest : goal.invariant-loop-rest

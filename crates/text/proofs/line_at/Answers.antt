@@ -1,17 +1,28 @@
-use Rattle.std.proofs.Common.{◌+◌, sym, arith, length-take-le}
-use Rattle.text.proofs.LineLaws.{ended_last, ended_take}
+use Rattle.std.proofs.Common.{◌-◌, ◌≤◌, length, sym, arith, length-take-le}
+use Rattle.text.proofs.LineLaws.{line_found, record_found, record_none}
 use Rattle.text.proofs.line_at.Goals as goal
+use Rattle.text.proofs.line_at.Goals.{Else-n-eq0}
 
-pub returns-then-t-n : goal.returns-then-t-n
-returns-then-t-n c =
-    let t = c.behind-t.result.now in
-    rw (← c.behind-t.ensures) (sym (ended_last t c.find-n.result c.find-n.ensures c.if-t-n.true))
+-- the line is not empty: it has its line feed
+some : (c : Else-n-eq0) → 1 ≤ length c.line_from-line.result.now
+some c = omega arith
 
-pub slice_bounds-result-end-2 : goal.slice_bounds-result-end-2
-slice_bounds-result-end-2 c =
-    sym (length-take-le (c.find-n.result + 1) c.behind-t.result.now (omega arith))
+pub returns-then-n-eq0 : goal.returns-then-n-eq0
+returns-then-n-eq0 c =
+    let a = c.args in
+    sym (record_none a.s.now a.at c.line_from-line.result.now c.line_from-line.ensures c.if-n-eq0.true)
+
+pub slice_bounds-record_of-length : goal.slice_bounds-record_of-length
+slice_bounds-record_of-length c =
+    let l = c.line_from-line.result.now in
+    sym (length-take-le (length l - 1) l (omega arith))
+
+pub overflow_add-result : goal.overflow_add-result
+overflow_add-result c =
+    let a = c.args in
+    omega (arith, (line_found a.s.now a.at c.line_from-line.result.now c.line_from-line.ensures (some (goal.at.overflow_add-result c).Else-n-eq0)).1)
 
 pub returns : goal.returns
 returns c =
-    let t = c.behind-t.result.now in
-    rw (← c.behind-t.ensures) (ended_take t c.find-n.result c.find-n.ensures c.if-t-n.false)
+    let a = c.args in
+    rw (record_found a.s.now a.at c.line_from-line.result.now c.line_from-line.ensures (some (goal.at.returns c).Else-n-eq0), c.record_of.ensures)

@@ -12,30 +12,30 @@ formed c = sym c.well_formed-2.ensures ∙ not-false _ c.if-not-well_formed.fals
 pub returns-then-not-well_formed : goal.returns-then-not-well_formed
 returns-then-not-well_formed c = sym (number_malformed _ (sym c.well_formed-2.ensures ∙ not-true _ c.if-not-well_formed.true-raw))
 
-pub value_of-requires : goal.value_of-requires
-value_of-requires c = (omega arith, well_formed_digits _ (formed (goal.at.value_of-requires c).Else-not-well_formed))
+pub decimal-requires : goal.decimal-requires
+decimal-requires c = (omega arith, well_formed_digits _ (formed (goal.at.decimal-requires c).Else-not-well_formed))
 
 pub returns-then-f-lt20 : goal.returns-then-f-lt20
-returns-then-f-lt20 c = sym (number_value _ _ (formed (goal.at.returns-then-f-lt20 c).Else-not-well_formed) c.value_of.ensures (search rules))
+returns-then-f-lt20 c = sym (number_value _ _ (formed (goal.at.returns-then-f-lt20 c).Else-not-well_formed) c.decimal.ensures (search rules))
 
-pub slice_bounds-value_of-end : goal.slice_bounds-value_of-end
-slice_bounds-value_of-end c = sym (length-take-le 19 c.args.f.now (omega arith))
+pub slice_bounds-decimal-end : goal.slice_bounds-decimal-end
+slice_bounds-decimal-end c = sym (length-take-le 19 c.args.f.now (omega arith))
 
-pub value_of-most-requires : goal.value_of-most-requires
-value_of-most-requires c =
+pub decimal-most-requires : goal.decimal-most-requires
+decimal-most-requires c =
     let f = c.args.f.now in
-    (omega (arith, length-take-le 19 f (omega arith)), digits_take 19 f (well_formed_digits f (formed (goal.at.value_of-most-requires c).Else-not-well_formed)))
+    (omega (arith, length-take-le 19 f (omega arith)), digits_take 19 f (well_formed_digits f (formed (goal.at.decimal-most-requires c).Else-not-well_formed)))
 
 pub overflow_sub-f : goal.overflow_sub-f
 overflow_sub-f c =
     let f = c.args.f.now in
     omega (arith, digit_at f 19 (omega arith) (well_formed_digits f (formed (goal.at.overflow_sub-f c).Else-not-well_formed)))
 
-value : (c : After-wide-last) → decimal_after 0 c.args.f.now ≡ c.value_of-most.result * 10 + c.wide-last.result
+value : (c : After-wide-last) → decimal_after 0 c.args.f.now ≡ c.decimal-most.result * 10 + c.wide-last.result
 value c =
     let f = c.args.f.now in
     let n : length f ≡ 19 + 1 = omega (arith, well_formed_length f (sym c.well_formed-2.ensures ∙ c.if-not-well_formed.false)) in
-    rw (decimal_last 19 f n, c.value_of-most.ensures, c.wide-last.ensures)
+    rw (decimal_last 19 f n, c.decimal-most.ensures, c.wide-last.ensures)
 
 pub returns-then-last-most : goal.returns-then-last-most
 returns-then-last-most c = sym (number_large _ (formed (goal.at.returns-then-last-most c).Else-not-well_formed) (omega (arith, value (goal.at.returns-then-last-most c).After-wide-last)))

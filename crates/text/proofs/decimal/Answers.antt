@@ -1,7 +1,7 @@
 use Rattle.std.proofs.Common.{arith, rules}
 use Rattle.text.proofs.NumberLaws.{digit_at, TenTimes, ten_times, decimal_step, decimal_end}
-use Rattle.text.proofs.value_of.Goals as goal
-use Rattle.text.proofs.value_of.Goals.{After-wide}
+use Rattle.text.proofs.decimal.Goals as goal
+use Rattle.text.proofs.decimal.Goals.{After-wide}
 
 -- a digit is read
 more : (c : After-wide) → TenTimes c.loop-i.i c.loop-i.value c.wide.result
