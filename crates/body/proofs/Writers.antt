@@ -26,7 +26,7 @@ equals_some none i h = absurd (not_both h refl)
 equals_some (some j) i h = ap some (eqb-true j i h)
 
 module _ (B : Body) where
-  -- lastBefore
+  -- last_before
 
   pub last_wrote : (t g : ℕ) → mem g (B.writes t) ≡ true → last_before B (suc t) g ≡ some t
   unfolding last_before
@@ -167,7 +167,7 @@ module _ (B : Body) where
       let u = (and-eq-true_iff (not (eqb q (B.rank i))) (wanted B i g q)).0 h in
       (eqb-false q (B.rank i) (not-true (eqb q (B.rank i)) u.0), u.1)
 
-  -- transfersOf
+  -- transfers_of
 
   pub transfer_in : (i g q : ℕ) → mem g (B.writes i) ≡ true → q < B.ranks → transferred B i g q ≡ true → In (transfer i g q) (transfers_of B i)
   unfolding transfers_of

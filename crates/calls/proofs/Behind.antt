@@ -22,7 +22,7 @@ use Rattle.unroll.specs.AnyOrder.{all_steps}
 use Rattle.body.specs.Body.{Body}
 use Rattle.body.specs.Items.{item_count, item_passes, total_steps}
 use Rattle.body.specs.Transfers.{last_before}
-use Rattle.body.specs.Places.{initial, system, result_from, result_of as regionResult}
+use Rattle.body.specs.Places.{initial, system, result_from, result_of as region_result}
 use Rattle.body.proofs.WrappedCount.{all_steps_lem}
 use Rattle.plan.specs.Limits.{max_passes}
 use Rattle.plan.specs.Sizes.{count_words, value_words, first_finished, first_unmet, first_held}
@@ -43,8 +43,8 @@ use Rattle.doors.specs.Doors.{Clear}
 use Rattle.doors.proofs.Counting.{complete_is, counts_below, counts_opened}
 
 -- a result does not depend on the counts
-pub result_apart : (B : Body) (C D W : List ℕ) (g : ℕ) → regionResult B (state_of C W) g ≡ regionResult B (state_of D W) g
-unfolding regionResult
+pub result_apart : (B : Body) (C D W : List ℕ) (g : ℕ) → region_result B (state_of C W) g ≡ region_result B (state_of D W) g
+unfolding region_result
 result_apart B C D W g = go (last_before B B.tasks g)
   where
     go : (o : Option ℕ) → result_from B (state_of C W) g o ≡ result_from B (state_of D W) g o
@@ -216,8 +216,8 @@ module _ (w C table : List ℕ) (n : ℕ) (K : Clear w C table n) (W : List ℕ)
     pub result_early : not ok ≡ true → refused w C W 18 ≡ result_of w C W region
     result_early h = sym (result_tested ∙ rw (not-true ok h))
 
-    pub result_made : not ok ≡ false → (g word : ℕ) → g ≡ region → word ≡ regionResult (body_of w) (state_of [] W) g →
+    pub result_made : not ok ≡ false → (g word : ℕ) → g ≡ region → word ≡ region_result (body_of w) (state_of [] W) g →
         ◌≡◌ {A = Left} (record { refusal = 0; word = word; counts = C; values = W }) (result_of w C W region)
     result_made h g word e f =
-        let k : word ≡ regionResult (body_of w) (state_of C W) region = f ∙ (ap (regionResult (body_of w) (state_of [] W)) e ∙ result_apart (body_of w) [] C W region) in
+        let k : word ≡ region_result (body_of w) (state_of C W) region = f ∙ (ap (region_result (body_of w) (state_of [] W)) e ∙ result_apart (body_of w) [] C W region) in
         sym (result_tested ∙ rw (not-false ok h, whole w table n G, k))

@@ -1,5 +1,5 @@
 -- Laws of the counts: started and finished passes, and numbers of unmet waits. Those that end in
--- -none, -more and -done are a loop's: before its first turn, over a turn, and after its last.
+-- _none, _more and _done are a loop's: before its first turn, over a turn, and after its last.
 use Prim.Native.Nat.{ℕ, ◌+◌, ◌-◌, ◌^◌, ◌≤◌, ◌<◌}
 use mathlib.Core.Path.{◌≡◌, refl, sym, ◌∙◌, ap, ap₂}
 use mathlib.Core.Bool.{Bool, true, false, cond, ◌&&◌, ◌||◌}

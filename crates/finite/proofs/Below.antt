@@ -1,4 +1,4 @@
--- Laws of the quantifiers, counts and sums below n. Those that end in -none, -more and -done are a
+-- Laws of the quantifiers, counts and sums below n. Those that end in _none, _more and _done are a
 -- loop's: before its first turn, over a turn, and after its last.
 use Prim.Native.Nat.{ℕ, zero, suc, ◌+◌, ◌*◌, ◌≤◌, ◌<◌}
 use mathlib.Core.Path.{◌≡◌, refl, sym, ◌∙◌, ap, subst}
@@ -59,7 +59,7 @@ all_split m (suc n) p = rw (add-suc, all_split m n p) (and_assoc (all_below m p)
 pub all_fails : (p : ℕ → Bool) (n i : ℕ) → i < n → p i ≡ false → all_below n p ≡ false
 all_fails p n i l h = false_of (all_below n p) (λ e. not_both (all_at p n i e l) h)
 
--- anyBelow
+-- any_below
 
 pub any_none : (p : ℕ → Bool) → false ≡ any_below 0 p
 unfolding any_below
@@ -136,7 +136,7 @@ all_not (suc n) p = rw (all_not n p) (both (any_below n p) (p n))
     both true b = refl
     both false b = refl
 
--- countBelow
+-- count_below
 
 pub count_none : (p : ℕ → Bool) → 0 ≡ count_below 0 p
 unfolding count_below
@@ -167,7 +167,7 @@ unfolding count_below
 count_le p zero = omega arith
 count_le p (suc n) = omega (arith, count_le p n, one_at_most (p n))
 
--- sumBelow
+-- sum_below
 
 pub sum_none : (f : ℕ → ℕ) → 0 ≡ sum_below 0 f
 unfolding sum_below

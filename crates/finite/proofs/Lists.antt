@@ -1,4 +1,4 @@
--- Laws of range, tabulate, replicate, gather and flat_map. Those that end in -none, -more and -done
+-- Laws of range, tabulate, replicate, gather and flat_map. Those that end in _none, _more and _done
 -- are a loop's that fills a list: before its first turn, over a turn, and after its last.
 use Prim.Native.Nat.{ℕ, zero, suc, ◌+◌, ◌≤◌, ◌<◌}
 use mathlib.Core.Path.{◌≡◌, refl, sym, ◌∙◌, ap, ap₂}

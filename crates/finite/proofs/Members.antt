@@ -1,4 +1,4 @@
--- Laws of membership: of numbers by `mem`, and of any elements by the kit's List-as-Memᴰ, here In. And of `distinct`.
+-- Laws of membership: of numbers by `mem`, and of any elements by the kit's List.Memᴰ, here In. And of `distinct`.
 use Prim.Native.Nat.{ℕ, zero, suc, ◌<◌}
 use mathlib.Core.Path.{◌≡◌, refl, sym, ◌∙◌, ap, ap₂, subst}
 use mathlib.Core.Bool.{Bool, true, false, cond, not, ◌&&◌, ◌||◌, or-true, or-false, or_assoc, and-eq-true_iff}

@@ -1,4 +1,4 @@
--- The numbers from k on, and a list with other values at places from k on. -none, -more and -done
+-- The numbers from k on, and a list with other values at places from k on. _none, _more and _done
 -- are a loop's: before its first turn, over a turn, and after its last.
 use Prim.Native.Nat.{ℕ, ◌+◌, ◌≤◌, ◌<◌}
 use mathlib.Core.Path.{◌≡◌, sym, ◌∙◌, ap}

@@ -1,5 +1,5 @@
 -- Laws of the words that the scan keeps for the regions, and of a scan of one task's accesses:
--- -none, -same, -changed and -done are a loop's, before its first turn, over a turn, and after its
+-- _none, _same, _changed and _done are a loop's, before its first turn, over a turn, and after its
 -- last.
 use Rattle.std.proofs.Common.{◌≡◌, ℕ, zero, suc, ◌+◌, ◌*◌, ◌%◌, ◌^◌, ◌<◌, ◌≤◌, Bool, true, false, cond, not, ◌&&◌, eqb, ltb, List, get_or, set, sym, refl, ap, ◌∙◌, subst, ⊎_elim, arith, length-set, get_or-set_other, get_or-set_same, le-ltb, lt-ltb, eq-eqb, ne_eqb}
 use mathlib.Core.Bool.{and-false, or-false}

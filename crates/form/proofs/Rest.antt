@@ -1,4 +1,4 @@
--- Laws of the words that have to be 0: -none, -more, -not and -done are a loop's, before its first
+-- Laws of the words that have to be 0: _none, _more, _not and _done are a loop's, before its first
 -- turn, over a turn, at a word that is not 0, and after its last.
 use Rattle.std.proofs.Common.{◌≡◌, ℕ, ◌+◌, ◌-◌, ◌*◌, ◌<◌, ◌≤◌, Bool, true, false, ◌&&◌, ◌||◌, eqb, ltb, List, get_or, sym, refl, ap, ◌∙◌, arith, le-ltb, lt-ltb, eq-eqb, ne_eqb, eqb-true}
 use mathlib.Core.Bool.{or-true}

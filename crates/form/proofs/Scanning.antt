@@ -1,4 +1,4 @@
--- Laws of the scan of the tasks: -none, -more, -not and -done are a loop's, before its first turn,
+-- Laws of the scan of the tasks: _none, _more, _not and _done are a loop's, before its first turn,
 -- over a turn, at a task that is not in form, and after its last.
 use Rattle.std.proofs.Common.{◌≡◌, ℕ, suc, ◌+◌, ◌*◌, ◌<◌, ◌≤◌, Bool, true, false, not, ltb, leb, List, sym, refl, ◌∙◌, add-one, arith, ltb-true, leb-true}
 use mathlib.Core.Bool.{and-false}

@@ -27,7 +27,7 @@ use Rattle.items.specs.Codes.{pair_codes, pair_if, mask_codes, access_codes, tas
 use Rattle.graph.specs.Table.{code_of, table_of, Graph}
 use Rattle.graph.proofs.Small.{form_words, form_transfers}
 
--- bit q of mask maxAccesses i + a is set where the test p of task, access and rank holds
+-- bit q of mask max_accesses i + a is set where the test p of task, access and rank holds
 abbrev MasksOf : (p : ℕ → ℕ → ℕ → Bool) (masks : List ℕ) → Type 0
 MasksOf p masks = (i a q : ℕ) → i < max_tasks → a < max_accesses → q < max_ranks → get_or masks (max_accesses * i + a) 0 / 2 ^ q % 2 ≡ cond (p i a q) 1 0
 

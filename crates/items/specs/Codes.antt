@@ -20,7 +20,7 @@ pair_if mask wrapped r g q = cond (has_rank mask q) (pair_codes (wrapped / 2 ^ q
 unfoldable pub mask_codes : ℕ → ℕ → ℕ → ℕ → List ℕ
 mask_codes mask wrapped r g = collect max_ranks (pair_if mask wrapped r g)
 
--- by a mask for each access, at maxAccesses i + a: of all its transfers, and of the wrapped ones
+-- by a mask for each access, at max_accesses i + a: of all its transfers, and of the wrapped ones
 module _ (w masks wraps : List ℕ) where
   -- access a of task i
   unfoldable pub access_codes : ℕ → ℕ → List ℕ

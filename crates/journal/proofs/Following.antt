@@ -11,7 +11,7 @@ use Rattle.text.specs.Records.{split}
 use Rattle.plan.specs.Layout.{plan_words}
 use Rattle.graph.specs.Answers.{formed_plan}
 use Rattle.steps.specs.Answers.{Left}
-use Rattle.steps.specs.Calls.{Call, start as startCall, finish as finishCall, result, is_step, Lent, lent_by, call, is_accepted, play, accepted}
+use Rattle.steps.specs.Calls.{Call, start as start_call, finish as finish_call, result, is_step, Lent, lent_by, call, is_accepted, play, accepted}
 use Rattle.steps.proofs.Playing.{accepted_most}
 use Rattle.journal.specs.Lines.{Step}
 use Rattle.journal.specs.Checking.{call_of, passed, stopped, check_lines, check_from, check_more_of}
@@ -41,13 +41,13 @@ module _ (plan : List ℕ) where
   told_each : (l : List Call) (s : Lent) → accepted plan is_step s l ≡ length l → Each plan s (told_of plan s l) × (play_steps plan s (told_of plan s l) ≡ play plan s l)
   unfolding told_of Each play accepted
   told_each [] s e = (tt, refl)
-  told_each (startCall a ∷ l) s e =
-      let h = all_accepted s (startCall a) l e in
-      let i = told_each l (lent_by (call plan s (startCall a))) h.2 in
+  told_each (start_call a ∷ l) s e =
+      let h = all_accepted s (start_call a) l e in
+      let i = told_each l (lent_by (call plan s (start_call a))) h.2 in
       (((h.0, refl), i.0), i.1)
-  told_each (finishCall a ∷ l) s e =
-      let h = all_accepted s (finishCall a) l e in
-      let i = told_each l (lent_by (call plan s (finishCall a))) h.2 in
+  told_each (finish_call a ∷ l) s e =
+      let h = all_accepted s (finish_call a) l e in
+      let i = told_each l (lent_by (call plan s (finish_call a))) h.2 in
       ((h.0, i.0), i.1)
   told_each (result g ∷ l) s e =
       let h = all_accepted s (result g) l e in

@@ -14,7 +14,7 @@ use Rattle.finite.proofs.Tests.{and-true}
 use Rattle.plan.specs.Layout.{plan_words}
 use Rattle.graph.specs.Answers.{formed_plan}
 use Rattle.steps.specs.Answers.{Left}
-use Rattle.steps.specs.Calls.{Call, start as startCall, finish as finishCall, result, Lent, lent_by, call, play}
+use Rattle.steps.specs.Calls.{Call, start as start_call, finish as finish_call, result, Lent, lent_by, call, play}
 use Rattle.steps.proofs.Accepting.{start_turn, start_started, finish_can, finish_finished, result_shown, every_unchanged}
 use Rattle.steps.proofs.Placing.{items_few}
 use Rattle.prepared.proofs.Reached.{Shown, shown_step, shown_clear}
@@ -27,13 +27,13 @@ module _ (plan : List ℕ) where
   pub holds_test : (s : Lent) (e : Step) → (holds (call plan) s e ≡ true) ↔ Holds plan s e
   holds_test s (start a w) = (
     λ h.
-        let b = and-true (eqb (call plan s (startCall a)).refusal 0) (eqb (call plan s (startCall a)).word w) h in
-        (eqb-true (call plan s (startCall a)).refusal 0 b.0, eqb-true (call plan s (startCall a)).word w b.1),
-    λ h. rw (eq-eqb (call plan s (startCall a)).refusal 0 h.0) (eq-eqb (call plan s (startCall a)).word w h.1),
+        let b = and-true (eqb (call plan s (start_call a)).refusal 0) (eqb (call plan s (start_call a)).word w) h in
+        (eqb-true (call plan s (start_call a)).refusal 0 b.0, eqb-true (call plan s (start_call a)).word w b.1),
+    λ h. rw (eq-eqb (call plan s (start_call a)).refusal 0 h.0) (eq-eqb (call plan s (start_call a)).word w h.1),
   )
   holds_test s (finish a) = (
-    λ h. eqb-true (call plan s (finishCall a)).refusal 0 (and-true (eqb (call plan s (finishCall a)).refusal 0) true h).0,
-    λ h. rw (eq-eqb (call plan s (finishCall a)).refusal 0 h),
+    λ h. eqb-true (call plan s (finish_call a)).refusal 0 (and-true (eqb (call plan s (finish_call a)).refusal 0) true h).0,
+    λ h. rw (eq-eqb (call plan s (finish_call a)).refusal 0 h),
   )
 
   -- each step holds in the state that those before it left
@@ -65,8 +65,8 @@ module _ (plan : List ℕ) where
       ]
     where
       made : (c : Call) → (call plan s c).refusal ≡ 0 → Words (call plan s c).values
-      made (startCall a) z = rw (start_started plan s.counts s.values a z) (started_fits plan s.counts s.values p v a)
-      made (finishCall a) z = rw (finish_finished plan s.counts s.values a z) (finished_fits plan s.counts s.values p v a)
+      made (start_call a) z = rw (start_started plan s.counts s.values a z) (started_fits plan s.counts s.values p v a)
+      made (finish_call a) z = rw (finish_finished plan s.counts s.values a z) (finished_fits plan s.counts s.values p v a)
       made (result g) z = rw (result_shown plan s.counts s.values g z) v
 
   module _ (long : plan_words ≤ length plan) (formed : formed_plan plan ≡ true) where
@@ -88,7 +88,7 @@ module _ (plan : List ℕ) where
       step_fits s (start a w) f h =
           let c = shown_clear plan long formed s f.shown in
           let k = (start_turn plan s.counts s.values c a).0 h.0 in
-          let v : (call plan s (startCall a)).word ≡ _ = ap (λ (r : Left). r.word) (start_started plan s.counts s.values a h.0) in
+          let v : (call plan s (start_call a)).word ≡ _ = ap (λ (r : Left). r.word) (start_started plan s.counts s.values a h.0) in
           (omega (arith, k.0, items_few (take plan_words plan) formed), omega (arith, word_fits plan s.counts s.values plan_words_lem f.words a, v, h.1))
       step_fits s (finish a) f h =
           let c = shown_clear plan long formed s f.shown in

@@ -8,15 +8,15 @@ use Rattle.graph.specs.declared.Number.{Number}
 use Rattle.graph.specs.Answers.{plan_body}
 use Rattle.steps.specs.State.{state_of}
 use Rattle.steps.specs.Answers.{Left, is_complete, call_refusal, unless, open_of}
-use Rattle.steps.specs.Calls.{Call, start as startCall, finish as finishCall, Lent, lent, lent_by, call}
+use Rattle.steps.specs.Calls.{Call, start as start_call, finish as finish_call, Lent, lent, lent_by, call}
 use Rattle.prepared.specs.Tables.{tables_of}
 use Rattle.prepared.specs.Calls.{call_in}
 use Rattle.journal.specs.Lines.{Step, start, finish, step_of}
 
 -- the call that a step makes, and whether v is the word that it states: a finish states none
 abbrev pub call_of : Step → Call
-call_of (start a w) = startCall a
-call_of (finish a) = finishCall a
+call_of (start a w) = start_call a
+call_of (finish a) = finish_call a
 
 abbrev pub states : Step → ℕ → Bool
 states (start a w) v = eqb v w

@@ -8,7 +8,7 @@ use Rattle.text.specs.Records.{split}
 use Rattle.plan.specs.Limits.{max_word}
 use Rattle.graph.specs.Answers.{plan_body}
 use Rattle.steps.specs.Answers.{Left, call_refusal, refused, open_of, result_of}
-use Rattle.steps.specs.Calls.{Call, start as startCall, finish as finishCall, is_step, Lent, lent_by, call, play, accepted}
+use Rattle.steps.specs.Calls.{Call, start as start_call, finish as finish_call, is_step, Lent, lent_by, call, play, accepted}
 use Rattle.journal.specs.Lines.{Step, start, finish, step_of}
 use Rattle.journal.specs.Checking.{call_of, check_of, check_more_of}
 use Rattle.journal.specs.Written.{line_of, journal_of, told_of}
@@ -38,8 +38,8 @@ later n r = cond (eqb r.refusal 0) r (record { refusal = r.refusal; word = n + r
 module _ (plan : List ℕ) where
   -- the step is accepted, with the word that it states
   abbrev pub Holds : Lent → Step → Type 0
-  Holds s (start a w) = ((call plan s (startCall a)).refusal ≡ 0) × ((call plan s (startCall a)).word ≡ w)
-  Holds s (finish a) = (call plan s (finishCall a)).refusal ≡ 0
+  Holds s (start a w) = ((call plan s (start_call a)).refusal ≡ 0) × ((call plan s (start_call a)).word ≡ w)
+  Holds s (finish a) = (call plan s (finish_call a)).refusal ≡ 0
 
   -- the state after the steps of a list
   abbrev pub play_steps : Lent → List Step → Lent

@@ -3,7 +3,7 @@ use Rattle.std.specs.Prelude.{ℕ, List, [], ◌∷◌, ◌++◌}
 use Rattle.text.specs.Ascii.{ascii}
 use Rattle.text.specs.Digits.{digits}
 use Rattle.text.specs.declared.Number.TheVariants.{Value}
-use Rattle.steps.specs.Calls.{Call, start as startCall, finish as finishCall, result, Lent, lent_by, call}
+use Rattle.steps.specs.Calls.{Call, start as start_call, finish as finish_call, result, Lent, lent_by, call}
 use Rattle.journal.specs.Lines.{Step, start, finish}
 
 -- the line of a step, without its line feed
@@ -19,7 +19,7 @@ journal_of (e ∷ l) = line_of e ++ (10 ∷ journal_of l)
 -- calls as steps of a journal: each start with the word that it is answered. A result is no step
 unfoldable pub told_of : List ℕ → Lent → List Call → List Step
 told_of plan s [] = []
-told_of plan s (startCall a ∷ l) =
-    let r = call plan s (startCall a) in start a r.word ∷ told_of plan (lent_by r) l
-told_of plan s (finishCall a ∷ l) = finish a ∷ told_of plan (lent_by (call plan s (finishCall a))) l
+told_of plan s (start_call a ∷ l) =
+    let r = call plan s (start_call a) in start a r.word ∷ told_of plan (lent_by r) l
+told_of plan s (finish_call a ∷ l) = finish a ∷ told_of plan (lent_by (call plan s (finish_call a))) l
 told_of plan s (result g ∷ l) = told_of plan (lent_by (call plan s (result g))) l

@@ -1,4 +1,4 @@
--- Laws of the kernels. Those that end in -none, -more and -done are a loop's over the reads: before
+-- Laws of the kernels. Those that end in _none, _more and _done are a loop's over the reads: before
 -- its first turn, over a turn, and after its last.
 use Rattle.std.proofs.Common.{◌≡◌, ℕ, zero, suc, ◌+◌, ◌%◌, ◌^◌, ◌<◌, ◌≤◌, max, true, false, leb, List, [], ◌∷◌, ◌++◌, length, get_or, take, sym, refl, ap, ◌∙◌, add-one, arith, take_all, take-suc, ne_eqb, eqb-true}
 use native.Mathlib.Decide.{dec_le}
@@ -49,14 +49,14 @@ unfolding largest
 largest_below [] n p h = p
 largest_below (x ∷ xs) n p h = omega (arith, largest_below xs n p (λ i. h (suc i)), h 0)
 
--- kernelBy
+-- kernel_by
 
 -- no number above 4 is a kernel
 pub kernel_by_other : (k : ℕ) → 4 < k → kernel_by k ≡ Unknown
 kernel_by_other k h =
     rw (ne_eqb k 0 (λ p. omega arith), ne_eqb k 1 (λ p. omega arith), ne_eqb k 2 (λ p. omega arith), ne_eqb k 3 (λ p. omega arith), ne_eqb k 4 (λ p. omega arith))
 
--- isKernel
+-- is_kernel
 
 -- the kernels are the numbers 0 to 4
 pub is_kernel_most : (k : ℕ) → is_kernel k ≡ leb k 4
@@ -88,7 +88,7 @@ suits_mean n h = eqb-true n 4 h
 pub suits_kernel : (k n : ℕ) → suits k n ≡ true → k ≤ 4
 suits_kernel k n h = elim (dec_le k 4) [ yes l ↦ l | no l ↦ absurd (not_both h (suits_other k n (omega arith))) ]
 
--- kernelWord
+-- kernel_word
 
 pub kernel_word_other : (k c : ℕ) (xs : List ℕ) → 4 < k → kernel_word k c xs ≡ 0
 unfolding kernel_word

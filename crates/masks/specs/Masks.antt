@@ -15,7 +15,7 @@ pub record Entered (words : List ℕ) (p : ℕ → Bool) (words' : List ℕ) : T
   pub size : length words' ≡ mask_words
   pub each : (b : ℕ) → b < max_items → in_mask words' b ≡ (in_mask words b || p b)
 
--- a is the lowest item of the set, and was taken out; maxItems where there is none
+-- a is the lowest item of the set, and was taken out; max_items where there is none
 pub record Lowest (words : List ℕ) (a : ℕ) (words' : List ℕ) : Type 0 where
   pub size : length words' ≡ mask_words
   pub most : a ≤ max_items

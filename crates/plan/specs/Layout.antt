@@ -30,7 +30,7 @@ accesses_index i = 135 + 12 * i
 abbrev pub access_index : ℕ → ℕ → ℕ
 access_index i a = 136 + 12 * i + a
 
--- an access: a number below accessEnd, its region, and whether it reads and writes it
+-- an access: a number below access_end, its region, and whether it reads and writes it
 abbrev pub access_end : ℕ
 access_end = 384
 

@@ -7,7 +7,7 @@ pub use Rattle.edges.specs.EdgeList.{max_edges}
 abbrev pub max_items : ℕ
 max_items = 640
 
--- counts: a the started passes of item a, firstFinished + a its finished passes, firstUnmet + a how
+-- counts: a the started passes of item a, first_finished + a its finished passes, first_unmet + a how
 -- many of its waits are unmet
 abbrev pub count_words : ℕ
 count_words = 1920
@@ -18,7 +18,7 @@ first_finished = 640
 abbrev pub first_unmet : ℕ
 first_unmet = 1280
 
--- values: the copies; from first_slot on (body/specs/Body.antt) the slots; firstHeld + a the word
+-- values: the copies; from first_slot on (body/specs/Body.antt) the slots; first_held + a the word
 -- that item a holds
 abbrev pub value_words : ℕ
 value_words = 3328
@@ -31,7 +31,7 @@ first_held = 2688
 abbrev pub slot_of : ℕ → ℕ → ℕ
 slot_of kind a = first_slot + (a + 1) - kind
 
--- edges: three numbers for each of maxEdges, and no plan has more
+-- edges: three numbers for each of max_edges, and no plan has more
 -- (graph/specs/Laws.antt, `room`)
 abbrev pub edge_words : ℕ
 edge_words = 12672

@@ -13,7 +13,7 @@ use Rattle.finite.proofs.Below.{count_never}
 use Rattle.unroll.specs.Instances.{Before}
 use Rattle.unroll.specs.System.{System}
 use Rattle.unroll.specs.Edges.{Edge, rule, reuse}
-use Rattle.unroll.specs.Machine.{State, opening, Met, start as startStep, finish as finishStep, step}
+use Rattle.unroll.specs.Machine.{State, opening, Met, start as start_step, finish as finish_step, step}
 use Rattle.unroll.proofs.Decide.{decides}
 use Rattle.unroll.proofs.Edges.{dependence_later}
 use Rattle.unroll.proofs.Invariant.{Invariant, opening_invariant}
@@ -70,15 +70,15 @@ module _ (plan : List ℕ) (long : plan_words ≤ length plan) (formed : formed_
   pub shown_step : (s : Lent) → Shown s → (c : Call) → Shown (lent_by (call plan s c))
   shown_step s h (start a) =
       record {
-        σ = step S (decides S) h.σ (startStep a);
+        σ = step S (decides S) h.σ (start_step a);
         tied = (start_follows plan (decides S) long formed s h.σ a h.tied).tied;
-        kept = step_invariant S (decides S) (writers_made (plan_body plan) (plan_fits (take plan_words plan) formed)) h.σ (startStep a) h.kept;
+        kept = step_invariant S (decides S) (writers_made (plan_body plan) (plan_fits (take plan_words plan) formed)) h.σ (start_step a) h.kept;
       }
   shown_step s h (finish a) =
       record {
-        σ = step S (decides S) h.σ (finishStep a);
+        σ = step S (decides S) h.σ (finish_step a);
         tied = (finish_follows plan (decides S) long formed s h.σ a h.tied).tied;
-        kept = step_invariant S (decides S) (writers_made (plan_body plan) (plan_fits (take plan_words plan) formed)) h.σ (finishStep a) h.kept;
+        kept = step_invariant S (decides S) (writers_made (plan_body plan) (plan_fits (take plan_words plan) formed)) h.σ (finish_step a) h.kept;
       }
   shown_step s h (result g) = rw (result_same plan s g) h
 

@@ -1,11 +1,11 @@
 -- The tables of a plan: what a step needs of the plan's graph, made once, so that a step need not
 -- look at the whole plan. A lent slice of 16-bit numbers, in seven parts:
 --   0                    the number of items n
---   firstCode + a        item a's number in the item table
---   firstSource + a      how many other items have an edge to item a
---   firstStart + a       where the targets of item a start among all targets, for a from 0 to n
---   firstTarget + j      target j
---   firstRead + 9 a + k  place k that item a reads, for k below 8; for k = 8 how many it reads
+--   first_code + a        item a's number in the item table
+--   first_source + a      how many other items have an edge to item a
+--   first_start + a       where the targets of item a start among all targets, for a from 0 to n
+--   first_target + j      target j
+--   first_read + 9 a + k  place k that item a reads, for k below 8; for k = 8 how many it reads
 --   first_write + 9 a + k the same of the places that it writes
 -- The targets of an item are the other items to which it has an edge, rising; those of item 0 come
 -- first. Every other number is 0.

@@ -10,7 +10,7 @@ use lib.Seq.{drop-length}
 use Rattle.finite.specs.Put.{Put}
 use Rattle.plan.specs.Layout.{plan_words}
 use Rattle.plan.specs.Form.{in_form}
-use Rattle.reading.specs.Reading.{Reading, read_of, accepted as readTo, refused}
+use Rattle.reading.specs.Reading.{Reading, read_of, accepted as read_to, refused}
 use Rattle.reading.proofs.Theorems.{laws as reading-laws}
 use Rattle.reader.specs.declared.Answer.{Answer}
 use Rattle.reader.specs.Answer.{answer_of, left_in, Reads}
@@ -28,7 +28,7 @@ module _ (text plan : List ℕ) (long : length plan ≡ plan_words) (r : Answer)
   refused_lines f = go (read_of text) refl
     where
       go : (a : Reading) → read_of text ≡ a → refused_line r.refusal r.line ≡ reading_lines a
-      go (readTo w) e = absurd (f (ap (λ (x : Answer). x.refusal) (answered (readTo w) e)))
+      go (read_to w) e = absurd (f (ap (λ (x : Answer). x.refusal) (answered (read_to w) e)))
       go (refused n line) e = ap (λ (x : Answer). refused_line x.refusal x.line) (answered (refused n line) e)
 
   pub plan_lines_lem : r.refusal ≡ 0 → (length left ≡ plan_words) × (in_form left ≡ true) × (plan_lines left ≡ lines_of text)
@@ -36,7 +36,7 @@ module _ (text plan : List ℕ) (long : length plan ≡ plan_words) (r : Answer)
   plan_lines_lem z = go (read_of text) refl
     where
       go : (a : Reading) → read_of text ≡ a → (length left ≡ plan_words) × (in_form left ≡ true) × (plan_lines left ≡ reading_lines a)
-      go (readTo w) e =
+      go (read_to w) e =
           let none : drop plan_words plan ≡ [] = ap (λ (n : ℕ). drop n plan) (sym long) ∙ drop-length plan in
           let same : left ≡ w = R.leaves (omega (arith, long)) ∙ (ap (left_in plan) e ∙ (ap (λ (l : List ℕ). w ++ l) none ∙ append-nil w)) in
           rw same ((reading-laws.words text w e).size, reading-laws.in_form_lem text w e, refl)

@@ -8,7 +8,7 @@ use lib.ListN.{length, replicate, length-replicate}
 use Rattle.body.specs.Items.{total_steps}
 use Rattle.plan.specs.Layout.{plan_words, body_of}
 use Rattle.plan.specs.Form.{in_form}
-use Rattle.reading.specs.Reading.{Reading, read_of, accepted as readTo, refused}
+use Rattle.reading.specs.Reading.{Reading, read_of, accepted as read_to, refused}
 use Rattle.reading.proofs.Theorems.{laws as reading-laws}
 use Rattle.steps.specs.State.{count_words, value_words}
 use Rattle.steps.specs.Answers.{open_of}
@@ -45,7 +45,7 @@ unfolding lines_of
 room text = go (read_of text) refl
   where
     go : (r : Reading) → read_of text ≡ r → length (reading_lines r) ≤ report_bytes
-    go (readTo w) e = plan_room w (reading-laws.words text w e).size (reading-laws.in_form_lem text w e)
+    go (read_to w) e = plan_room w (reading-laws.words text w e).size (reading-laws.in_form_lem text w e)
     go (refused n line) e = omega (arith, refused_most n line)
 
 pub laws : Laws

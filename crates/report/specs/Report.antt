@@ -9,7 +9,7 @@ use Rattle.edges.specs.EdgeList.{edge_list}
 use Rattle.plan.specs.Limits.{max_passes, max_regions}
 use Rattle.plan.specs.Sizes.{max_edges, max_items, count_words, value_words}
 use Rattle.plan.specs.Layout.{body_of}
-use Rattle.reading.specs.Reading.{Reading, accepted as readTo, refused, read_of}
+use Rattle.reading.specs.Reading.{Reading, accepted as read_to, refused, read_of}
 use Rattle.graph.specs.declared.Number.{Number}
 use Rattle.graph.specs.Answers.{plan_body}
 use Rattle.steps.specs.Answers.{open_of, result_of}
@@ -25,7 +25,7 @@ lowest (suc n) t = or_else (lowest n t) (cond (t n) (some n) none)
 module _ (plan : List ℕ) where
   -- the lowest item whose call is accepted in the state s
   abbrev pub lowest_of : Lent → (ℕ → Call) → Option ℕ
-  lowest_of s callOn = lowest (item_count (plan_body plan)) (λ a. is_accepted plan s (callOn a))
+  lowest_of s call_on = lowest (item_count (plan_body plan)) (λ a. is_accepted plan s (call_on a))
 
   -- the step that comes next: the lowest item's finish or, with none accepted, the lowest's start
   unfoldable pub next_step : Lent → Option Call
@@ -60,7 +60,7 @@ end_lines plan s l =
     ++ collect (plan_body plan).regions
     (λ g. value_line g (result_of plan t.counts t.values g).word)
 
--- no plan takes more steps: two for each pass of each item Laws.accepted
+-- no plan takes more steps: two for each pass of each item (Laws.accepted)
 abbrev pub most_steps : ℕ
 most_steps = 2 * (max_passes * max_items)
 
@@ -71,7 +71,7 @@ plan_lines w =
 
 -- the lines of a text, by what reading it answers
 abbrev pub reading_lines : Reading → List ℕ
-reading_lines (readTo w) = plan_lines w
+reading_lines (read_to w) = plan_lines w
 reading_lines (refused n line) = refused_line n line
 
 -- the lines of a text

@@ -10,7 +10,7 @@ use lib.ListN.{take}
 use Rattle.finite.proofs.Tests.{and-true}
 use Rattle.finite.proofs.Update.{update_same}
 use Rattle.unroll.specs.System.{System}
-use Rattle.unroll.specs.Machine.{State, start as startStep, opening, CanStart, start_state}
+use Rattle.unroll.specs.Machine.{State, start as start_step, opening, CanStart, start_state}
 use Rattle.unroll.specs.AnyOrder.{reached}
 use Rattle.unroll.proofs.Decide.{decides}
 use Rattle.unroll.proofs.Invariant.{Invariant, start_invariant}
@@ -56,7 +56,7 @@ module _ (w : List ℕ) (F : Formed w) (s₀ : Lent) (O : Opened w s₀) (s : Le
     machine_starts : CanStart S machine a
     machine_starts =
         let f = start_follows w (decides S) (plan_long w F) (plan_formed w F) s machine a machine_tied in
-        (reply_some S (decides S) machine (startStep a) _ (f.answered (ready_accepted w (plan_long w F) (plan_formed w F) s G.idle a la ready))).0
+        (reply_some S (decides S) machine (start_step a) _ (f.answered (ready_accepted w (plan_long w F) (plan_formed w F) s G.idle a la ready))).0
 
     started_one : (start_state S machine a).started a ≡ suc ((start_state S machine a).finished a)
     unfolding start_state

@@ -18,7 +18,7 @@ use Rattle.unroll.proofs.Decide.{decides}
 use Rattle.body.specs.Body.{Body}
 use Rattle.body.specs.Transfers.{last_before}
 use Rattle.body.specs.Items.{task, item_count, item_at, item_passes, total_steps}
-use Rattle.body.specs.Places.{copy, writes_of, system, result_from, result_of as regionResult}
+use Rattle.body.specs.Places.{copy, writes_of, system, result_from, result_of as region_result}
 use Rattle.body.specs.Loop.{loop_final}
 use Rattle.body.specs.Computes.{Computes}
 use Rattle.body.proofs.Writers.{last_some}
@@ -40,8 +40,8 @@ unfolding writes_of
 task_writes B a j g e m = rw e (mem_map (copy B (B.rank j)) g (B.writes j) m)
 
 -- states that agree at the places of items show the same results
-pub result_agree : (B : Body) (s t : State) (g : ℕ) → Agree (system B) s t → regionResult B s g ≡ regionResult B t g
-unfolding regionResult
+pub result_agree : (B : Body) (s t : State) (g : ℕ) → Agree (system B) s t → region_result B s g ≡ region_result B t g
+unfolding region_result
 result_agree B s t g h = go (last_before B B.tasks g) refl
   where
     go : (o : Option ℕ) → last_before B B.tasks g ≡ o → result_from B s g o ≡ result_from B t g o

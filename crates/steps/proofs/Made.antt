@@ -20,7 +20,7 @@ use Rattle.unroll.specs.Machine.{State}
 use Rattle.body.specs.Body.{Body, Fits}
 use Rattle.body.specs.Transfers.{last_before}
 use Rattle.body.specs.Items.{send, kind_of, item_count, item_at}
-use Rattle.body.specs.Places.{slot, copy, initial, system, result_from, result_of as regionResult}
+use Rattle.body.specs.Places.{slot, copy, initial, system, result_from, result_of as region_result}
 use Rattle.body.specs.Meaning.{LastWriter}
 use Rattle.body.proofs.Writers.{last_writer}
 use Rattle.body.proofs.Places.{copy_below, copy_opening, slot_opening}
@@ -40,20 +40,20 @@ use Rattle.steps.proofs.Simulating.{opened_value}
 -- a result, by its region's last writer
 
 module _ (B : Body) (s : State) (g : ℕ) where
-  shown_written : (j : ℕ) → LastWriter B B.tasks g j → 0 < B.passes → regionResult B s g ≡ s.places (copy B (B.rank j) g)
-  unfolding regionResult
+  shown_written : (j : ℕ) → LastWriter B B.tasks g j → 0 < B.passes → region_result B s g ≡ s.places (copy B (B.rank j) g)
+  unfolding region_result
   shown_written j w l = rw ((last_writer B B.tasks g j).1 w, ne_eqb B.passes 0 (λ e. omega arith))
 
-  shown_unwritten : ((j : ℕ) → LastWriter B B.tasks g j → ⊥) → regionResult B s g ≡ B.starting g
-  unfolding regionResult
+  shown_unwritten : ((j : ℕ) → LastWriter B B.tasks g j → ⊥) → region_result B s g ≡ B.starting g
+  unfolding region_result
   shown_unwritten f = go (last_before B B.tasks g) refl
     where
       go : (o : Option ℕ) → last_before B B.tasks g ≡ o → result_from B s g o ≡ B.starting g
       go none e = refl
       go (some j) e = absurd (f j ((last_writer B B.tasks g j).0 e))
 
-  shown_no_pass : B.passes ≡ 0 → regionResult B s g ≡ B.starting g
-  unfolding regionResult
+  shown_no_pass : B.passes ≡ 0 → region_result B s g ≡ B.starting g
+  unfolding region_result
   shown_no_pass e = go (last_before B B.tasks g)
     where
       go : (o : Option ℕ) → result_from B s g o ≡ B.starting g
@@ -131,7 +131,7 @@ module _ (plan counts values : List ℕ) where
     open_value_stays x e = ap (λ (v : List ℕ). get_or v x 0) open_values ∙ replaced_not is_opened (initial (plan_body plan)) values x e
 
   module _ (g : ℕ) (h : (result_of plan counts values g).refusal ≡ 0) where
-    result_word : (result_of plan counts values g).word ≡ regionResult (plan_body plan) (state_of counts values) g
+    result_word : (result_of plan counts values g).word ≡ region_result (plan_body plan) (state_of counts values) g
     result_word = ap (λ (r : Left). r.word) (result_shown plan counts values g h)
 
     pub result_written : (j : ℕ) → LastWriter (plan_body plan) (plan_body plan).tasks g j → 0 < (plan_body plan).passes →

@@ -6,7 +6,7 @@ use mathlib.Core.Logic.{ite}
 use mathlib.Core.List.{List, [], ◌∷◌, ◌++◌, map}
 use native.Mathlib.Omega.{arith}
 use lib.ListN.{length, get_or}
-use Rattle.unroll.specs.Machine.{State, Call as Step, start as startStep, finish as finishStep, alike, any_call, Decides, step, run, accepted as acceptedSteps}
+use Rattle.unroll.specs.Machine.{State, Call as Step, start as start_step, finish as finish_step, alike, any_call, Decides, step, run, accepted as accepted_steps}
 use Rattle.body.specs.Places.{system}
 use Rattle.plan.specs.Layout.{plan_words}
 use Rattle.graph.specs.Answers.{formed_plan, plan_body}
@@ -18,25 +18,25 @@ use Rattle.steps.proofs.Simulating.{Tied, Follows, start_follows, finish_follows
 
 unfoldable pub steps_of : List Call → List Step
 steps_of [] = []
-steps_of (start a ∷ l) = startStep a ∷ steps_of l
-steps_of (finish a ∷ l) = finishStep a ∷ steps_of l
+steps_of (start a ∷ l) = start_step a ∷ steps_of l
+steps_of (finish a ∷ l) = finish_step a ∷ steps_of l
 steps_of (result g ∷ l) = steps_of l
 
 abbrev pub call_of : Step → Call
-call_of (startStep a) = start a
-call_of (finishStep a) = finish a
+call_of (start_step a) = start a
+call_of (finish_step a) = finish a
 
 pub steps_calls : (k : List Step) → steps_of (map call_of k) ≡ k
 unfolding steps_of
 steps_calls [] = refl
-steps_calls (startStep a ∷ k) = ap (λ (r : List Step). startStep a ∷ r) (steps_calls k)
-steps_calls (finishStep a ∷ k) = ap (λ (r : List Step). finishStep a ∷ r) (steps_calls k)
+steps_calls (start_step a ∷ k) = ap (λ (r : List Step). start_step a ∷ r) (steps_calls k)
+steps_calls (finish_step a ∷ k) = ap (λ (r : List Step). finish_step a ∷ r) (steps_calls k)
 
 pub steps_append : (l k : List Call) → steps_of (l ++ k) ≡ steps_of l ++ steps_of k
 unfolding steps_of
 steps_append [] k = refl
-steps_append (start a ∷ l) k = ap (λ (r : List Step). startStep a ∷ r) (steps_append l k)
-steps_append (finish a ∷ l) k = ap (λ (r : List Step). finishStep a ∷ r) (steps_append l k)
+steps_append (start a ∷ l) k = ap (λ (r : List Step). start_step a ∷ r) (steps_append l k)
+steps_append (finish a ∷ l) k = ap (λ (r : List Step). finish_step a ∷ r) (steps_append l k)
 steps_append (result g ∷ l) k = steps_append l k
 
 -- lists one behind the other, and how many of a list are accepted
@@ -72,31 +72,31 @@ pub record Picks (t : Call → Bool) (u : Step → Bool) : Type 0 where
   pub steps : (d : Step) → t (call_of d) ≡ u d
   pub results : (g : ℕ) → t (result g) ≡ false
 
-pub picks_start : (a : ℕ) → Picks (is_start a) (alike (startStep a))
+pub picks_start : (a : ℕ) → Picks (is_start a) (alike (start_step a))
 picks_start a = record { steps = same; results = λ g. refl }
   where
-    same : (d : Step) → is_start a (call_of d) ≡ alike (startStep a) d
-    same (startStep b) = refl
-    same (finishStep b) = refl
+    same : (d : Step) → is_start a (call_of d) ≡ alike (start_step a) d
+    same (start_step b) = refl
+    same (finish_step b) = refl
 
-pub picks_finish : (a : ℕ) → Picks (is_finish a) (alike (finishStep a))
+pub picks_finish : (a : ℕ) → Picks (is_finish a) (alike (finish_step a))
 picks_finish a = record { steps = same; results = λ g. refl }
   where
-    same : (d : Step) → is_finish a (call_of d) ≡ alike (finishStep a) d
-    same (startStep b) = refl
-    same (finishStep b) = refl
+    same : (d : Step) → is_finish a (call_of d) ≡ alike (finish_step a) d
+    same (start_step b) = refl
+    same (finish_step b) = refl
 
 pub picks_steps : Picks is_step any_call
 picks_steps = record { steps = same; results = λ g. refl }
   where
     same : (d : Step) → is_step (call_of d) ≡ any_call d
-    same (startStep b) = refl
-    same (finishStep b) = refl
+    same (start_step b) = refl
+    same (finish_step b) = refl
 
 module _ (plan : List ℕ) (can : Decides (system (plan_body plan))) (long : plan_words ≤ length plan) (formed : formed_plan plan ≡ true) where
   pub step_follows : (s : Lent) (σ : State) (d : Step) → Tied plan s σ → Follows plan can s σ (call_of d) d
-  step_follows s σ (startStep a) t = start_follows plan can long formed s σ a t
-  step_follows s σ (finishStep a) t = finish_follows plan can long formed s σ a t
+  step_follows s σ (start_step a) t = start_follows plan can long formed s σ a t
+  step_follows s σ (finish_step a) t = finish_follows plan can long formed s σ a t
 
   result_tied : (s : Lent) (σ : State) (g : ℕ) → Tied plan s σ → Tied plan (lent_by (call plan s (result g))) σ
   result_tied s σ g t = rw (result_same plan s g) t
@@ -104,8 +104,8 @@ module _ (plan : List ℕ) (can : Decides (system (plan_body plan))) (long : pla
   pub play_tied : (l : List Call) (s : Lent) (σ : State) → Tied plan s σ → Tied plan (play plan s l) (run (system (plan_body plan)) can σ (steps_of l))
   unfolding play run steps_of
   play_tied [] s σ t = t
-  play_tied (start a ∷ l) s σ t = play_tied l (lent_by (call plan s (start a))) (step (system (plan_body plan)) can σ (startStep a)) (start_follows plan can long formed s σ a t).tied
-  play_tied (finish a ∷ l) s σ t = play_tied l (lent_by (call plan s (finish a))) (step (system (plan_body plan)) can σ (finishStep a)) (finish_follows plan can long formed s σ a t).tied
+  play_tied (start a ∷ l) s σ t = play_tied l (lent_by (call plan s (start a))) (step (system (plan_body plan)) can σ (start_step a)) (start_follows plan can long formed s σ a t).tied
+  play_tied (finish a ∷ l) s σ t = play_tied l (lent_by (call plan s (finish a))) (step (system (plan_body plan)) can σ (finish_step a)) (finish_follows plan can long formed s σ a t).tied
   play_tied (result g ∷ l) s σ t = play_tied l (lent_by (call plan s (result g))) σ (result_tied s σ g t)
 
   module _ (t : Call → Bool) (u : Step → Bool) (p : Picks t u) where
@@ -121,14 +121,14 @@ module _ (plan : List ℕ) (can : Decides (system (plan_body plan))) (long : pla
         go true = refl
         go false = refl
 
-    pub play_accepted : (l : List Call) (s : Lent) (σ : State) → Tied plan s σ → accepted plan t s l ≡ acceptedSteps (system (plan_body plan)) can u σ (steps_of l)
-    unfolding accepted acceptedSteps steps_of
+    pub play_accepted : (l : List Call) (s : Lent) (σ : State) → Tied plan s σ → accepted plan t s l ≡ accepted_steps (system (plan_body plan)) can u σ (steps_of l)
+    unfolding accepted accepted_steps steps_of
     play_accepted [] s σ h = refl
     play_accepted (start a ∷ l) s σ h =
-        ap₂ ◌+◌ (count_step s σ (startStep a) h)
-        (play_accepted l (lent_by (call plan s (start a))) (step (system (plan_body plan)) can σ (startStep a)) (start_follows plan can long formed s σ a h).tied)
+        ap₂ ◌+◌ (count_step s σ (start_step a) h)
+        (play_accepted l (lent_by (call plan s (start a))) (step (system (plan_body plan)) can σ (start_step a)) (start_follows plan can long formed s σ a h).tied)
     play_accepted (finish a ∷ l) s σ h =
-        ap₂ ◌+◌ (count_step s σ (finishStep a) h)
-        (play_accepted l (lent_by (call plan s (finish a))) (step (system (plan_body plan)) can σ (finishStep a)) (finish_follows plan can long formed s σ a h).tied)
+        ap₂ ◌+◌ (count_step s σ (finish_step a) h)
+        (play_accepted l (lent_by (call plan s (finish a))) (step (system (plan_body plan)) can σ (finish_step a)) (finish_follows plan can long formed s σ a h).tied)
     play_accepted (result g ∷ l) s σ h =
         omega (arith, count_result s g, play_accepted l (lent_by (call plan s (result g))) σ (result_tied s σ g h))

@@ -22,7 +22,7 @@ use Rattle.unroll.specs.Machine.{State, finish_state}
 use Rattle.body.specs.Body.{Body}
 use Rattle.body.specs.Items.{item_count, item_at, item_passes}
 use Rattle.body.proofs.Wrapped.{passes_most}
-use Rattle.body.specs.Places.{system, result_of as regionResult}
+use Rattle.body.specs.Places.{system, result_of as region_result}
 use Rattle.edges.specs.Tests.{edge_test}
 use Rattle.waits.specs.Stored.{finished_numbers}
 use Rattle.plan.specs.Sizes.{max_items}
@@ -265,7 +265,7 @@ module _ (s : Lent) (long formed : Bool) (B : Body) where
         counts = set (finished_numbers (system B) (edge_test B) first_unmet (done_by s.counts) a s.counts) (first_finished + a) (suc (done_by s.counts a));
         values = replaced (λ x. mem x ((system B).writes a)) (λ x. state.held a) s.values;
       })
-  answer_by (result g) = judge (ltb g B.regions) (result_tests B state) (record { refusal = 0; word = regionResult B state g; counts = s.counts; values = s.values })
+  answer_by (result g) = judge (ltb g B.regions) (result_tests B state) (record { refusal = 0; word = region_result B state g; counts = s.counts; values = s.values })
 
 answered_by : (plan : List ℕ) (s : Lent) (c : Call) → call plan s c ≡ answer_by s (long_plan plan) (in_form (take plan_words plan)) (body_of (take plan_words plan)) c
 unfolding start_of finish_of finished_counts result_of answer_by judge state

@@ -16,7 +16,7 @@ use Rattle.finite.proofs.Tests.{eqb_from}
 use Rattle.finite.proofs.Update.{set_at, update_ind}
 use Rattle.finite.proofs.Replaced.{length_replaced, replaced_at}
 use Rattle.unroll.specs.System.{System}
-use Rattle.unroll.specs.Machine.{State, Call as Step, start as startStep, finish as finishStep, opening, CanStart, CanFinish, start_state, finish_state, Can, after, answer, Decides, reply, step}
+use Rattle.unroll.specs.Machine.{State, Call as Step, start as start_step, finish as finish_step, opening, CanStart, CanFinish, start_state, finish_state, Can, after, answer, Decides, reply, step}
 use Rattle.unroll.specs.Meaning.{Agree}
 use Rattle.unroll.proofs.Local.{local}
 use Rattle.unroll.proofs.Runs.{can_accepts, cannot_refuses, can_steps, can_counts, reply_some, reply_none}
@@ -277,20 +277,20 @@ module _ (plan : List ℕ) (can : Decides (system (plan_body plan))) where
           }
 
   module _ (long : plan_words ≤ length plan) (formed : formed_plan plan ≡ true) where
-    pub start_follows : (s : Lent) (σ : State) (a : ℕ) → Tied plan s σ → Follows s σ (start a) (startStep a)
+    pub start_follows : (s : Lent) (σ : State) (a : ℕ) → Tied plan s σ → Follows s σ (start a) (start_step a)
     start_follows s σ a t =
         let can_start = start_can plan s.counts s.values (tied_clear plan long formed s σ t) t.fresh a in
-        follows s σ (start a) (startStep a) t
+        follows s σ (start a) (start_step a) t
         (record {
           accepted = can_start;
           word = λ z. ap (λ (r : Left). r.word) (start_started plan s.counts s.values a z);
           left = λ z. rw (start_started plan s.counts s.values a z) (start_left plan long formed s σ t a (can_start.0 z));
         })
 
-    pub finish_follows : (s : Lent) (σ : State) (a : ℕ) → Tied plan s σ → Follows s σ (finish a) (finishStep a)
+    pub finish_follows : (s : Lent) (σ : State) (a : ℕ) → Tied plan s σ → Follows s σ (finish a) (finish_step a)
     finish_follows s σ a t =
         let can-finish = finish_can plan s.counts s.values (tied_clear plan long formed s σ t) a in
-        follows s σ (finish a) (finishStep a) t
+        follows s σ (finish a) (finish_step a) t
         (record {
           accepted = can-finish;
           word = λ z. ap (λ (r : Left). r.word) (finish_finished plan s.counts s.values a z);

@@ -8,7 +8,7 @@ use Rattle.unroll.specs.Sequential.{word_on}
 use Rattle.unroll.specs.Machine.{State}
 use Rattle.body.specs.Body.{Body, first_slot}
 use Rattle.body.specs.Items.{item_count, item_passes}
-use Rattle.body.specs.Places.{initial, system, result_of as regionResult}
+use Rattle.body.specs.Places.{initial, system, result_of as region_result}
 use Rattle.edges.specs.Tests.{kind_at, edge_test}
 use Rattle.waits.specs.Waits.{fresh_count}
 use Rattle.waits.specs.Stored.{finished_numbers}
@@ -164,7 +164,7 @@ module _ (plan counts values : List ℕ) where
 
   -- region g's result; nothing is changed
   abbrev pub shown : ℕ → Left
-  shown g = record { refusal = 0; word = regionResult (plan_body plan) (state_of counts values) g; counts = counts; values = values }
+  shown g = record { refusal = 0; word = region_result (plan_body plan) (state_of counts values) g; counts = counts; values = values }
 
   abbrev pub result_by : Bool → ℕ → Left
   result_by formed g =

@@ -1,7 +1,7 @@
 -- The state that a host lends (paper 01, "Steps"; docs/LAYOUT.md), as a state of the machine of the crate unroll.
---   counts: a the started passes of item a, firstFinished + a its finished passes, firstUnmet + a
+--   counts: a the started passes of item a, first_finished + a its finished passes, first_unmet + a
 --     its number of unmet waits.
---   values: the places by their numbers, which are the copies and from firstSlot on the slots; firstHeld + a the word that item a holds.
+--   values: the places by their numbers, which are the copies and from first_slot on the slots; first_held + a the word that item a holds.
 use Rattle.std.specs.Prelude.{ℕ, ◌+◌, List, get_or}
 use Rattle.unroll.specs.Machine.{State}
 use Rattle.body.specs.Body.{Body}

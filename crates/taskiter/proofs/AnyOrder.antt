@@ -7,7 +7,7 @@ use mathlib.Core.List.{List, ◌∷◌, ◌++◌, map}
 use native.Mathlib.Omega.{arith}
 use lib.ListN.{length, get_or, take, length-append, length-map}
 use lib.Seq.{take_at}
-use Rattle.unroll.specs.Machine.{Call as Step, start as startStep, finish as finishStep, alike, any_call, opening, Decides, accepted as acceptedSteps}
+use Rattle.unroll.specs.Machine.{Call as Step, start as start_step, finish as finish_step, alike, any_call, opening, Decides, accepted as accepted_steps}
 use Rattle.unroll.specs.AnyOrder.{End, reached, times}
 use Rattle.unroll.proofs.Decide.{decides}
 use Rattle.body.specs.Body.{Body}
@@ -45,11 +45,11 @@ module _ (plan : List ℕ) (long : plan_words ≤ length plan) (formed : formed_
   tied : (l : List Call) → Tied plan (play plan s l) (reached (system B) can (steps_of l))
   tied l = play_tied plan can long formed l s (opening (system B)) open-tied
 
-  starts_times : (a : ℕ) (l : List Call) → starts_of B plan s a l ≡ times (system B) can (startStep a) (steps_of l)
-  starts_times a l = play_accepted plan can long formed (is_start a) (alike (startStep a)) (picks_start a) l s (opening (system B)) open-tied
+  starts_times : (a : ℕ) (l : List Call) → starts_of B plan s a l ≡ times (system B) can (start_step a) (steps_of l)
+  starts_times a l = play_accepted plan can long formed (is_start a) (alike (start_step a)) (picks_start a) l s (opening (system B)) open-tied
 
-  finishes_times : (a : ℕ) (l : List Call) → finishes_of B plan s a l ≡ times (system B) can (finishStep a) (steps_of l)
-  finishes_times a l = play_accepted plan can long formed (is_finish a) (alike (finishStep a)) (picks_finish a) l s (opening (system B)) open-tied
+  finishes_times : (a : ℕ) (l : List Call) → finishes_of B plan s a l ≡ times (system B) can (finish_step a) (steps_of l)
+  finishes_times a l = play_accepted plan can long formed (is_finish a) (alike (finish_step a)) (picks_finish a) l s (opening (system B)) open-tied
 
   finishes_shown : (a : ℕ) (l : List Call) → finishes_of B plan s a l ≡ (reached (system B) can (steps_of l)).finished a
   finishes_shown a l = finishes_times a l ∙ sym (computed.any_order.finishes (steps_of l) a)
@@ -61,14 +61,14 @@ module _ (plan : List ℕ) (long : plan_words ≤ length plan) (formed : formed_
       (a < item_count B) × (starts_of B plan s a k < item_passes B a) × ((call_after B plan s k (start a)).word ≡ loop_word B (starts_of B plan s a k) (writer (item_at B a)))
   starts k a z =
       rw (starts_times a k)
-      (computed.answers (steps_of k) (startStep a) (call_after B plan s k (start a)).word
+      (computed.answers (steps_of k) (start_step a) (call_after B plan s k (start a)).word
       ((start_follows plan can long formed (play plan s k) (reached (system B) can (steps_of k)) a (tied k)).answered z))
 
   finishes : (k : List Call) (a : ℕ) → (call_after B plan s k (finish a)).refusal ≡ 0 →
       (a < item_count B) × (starts_of B plan s a k ≡ suc (finishes_of B plan s a k)) × ((call_after B plan s k (finish a)).word ≡ loop_word B (finishes_of B plan s a k) (writer (item_at B a)))
   finishes k a z =
       let e = (finish_follows plan can long formed (play plan s k) (reached (system B) can (steps_of k)) a (tied k)).answered z in
-      let r = computed.answers (steps_of k) (finishStep a) (call_after B plan s k (finish a)).word e in
+      let r = computed.answers (steps_of k) (finish_step a) (call_after B plan s k (finish a)).word e in
       rw (starts_times a k, finishes_times a k)
       (r.0, computed.any_order.last_started (steps_of k) a (call_after B plan s k (finish a)).word e, r.2)
 
@@ -80,12 +80,12 @@ module _ (plan : List ℕ) (long : plan_words ≤ length plan) (formed : formed_
   leads_on : (l : List Call) → (k : List Call) × (accepted plan is_step (play plan s l) k ≡ length k) × AtEnd B plan s (l ++ k)
   leads_on l = go (computed.any_order.completes (steps_of l))
     where
-      go : (k : List Step) × (acceptedSteps (system B) can any_call (reached (system B) can (steps_of l)) k ≡ length k) × End (system B) (reached (system B) can (steps_of l ++ k)) →
+      go : (k : List Step) × (accepted_steps (system B) can any_call (reached (system B) can (steps_of l)) k ≡ length k) × End (system B) (reached (system B) can (steps_of l ++ k)) →
           (k : List Call) × (accepted plan is_step (play plan s l) k ≡ length k) × AtEnd B plan s (l ++ k)
       go (k, n, e) = (
         map call_of k,
         play_accepted plan can long formed is_step any_call picks_steps (map call_of k) (play plan s l) (reached (system B) can (steps_of l)) (tied l)
-            ∙ (ap (acceptedSteps (system B) can any_call (reached (system B) can (steps_of l))) (steps_calls k) ∙ (n ∙ sym (length-map k call_of))),
+            ∙ (ap (accepted_steps (system B) can any_call (reached (system B) can (steps_of l))) (steps_calls k) ∙ (n ∙ sym (length-map k call_of))),
         (end_shown (l ++ map call_of k)).1 (rw (steps_append l (map call_of k), steps_calls k) e),
       )
 

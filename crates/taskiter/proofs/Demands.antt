@@ -19,7 +19,7 @@ use Rattle.plan.specs.Layout.{plan_words, body_of}
 use Rattle.kernels.proofs.Mean.{mean_laws}
 use Rattle.text.specs.Records.{split}
 use Rattle.reading.specs.Plan.{Plan, words_of}
-use Rattle.reading.specs.Reading.{Reading, accepted as readTo, refused as notRead, read_of}
+use Rattle.reading.specs.Reading.{Reading, accepted as read_to, refused as not_read, read_of}
 use Rattle.reading.specs.Refusals.{Fit, fit, no_fit, fit_from}
 use Rattle.reading.specs.Laws.{Says, Holds, Answers}
 use Rattle.reading.proofs.Theorems.{laws as reading-laws, text_laws, form_parts}
@@ -68,35 +68,35 @@ module _ (text plan : List ℕ) (r : Answer) (left : List ℕ) (R : Reads text p
 
     good : (P : Plan) → Says text P → (r.refusal ≡ 0) × (r.line ≡ 0) × (left ≡ words_of P ++ drop plan_words plan)
     good P S =
-        let e : read_of text ≡ readTo (words_of P) = (reading-laws.accepts text (words_of P)).1 (P, S, refl) in
+        let e : read_of text ≡ read_to (words_of P) = (reading-laws.accepts text (words_of P)).1 (P, S, refl) in
         (refusal_of_lem _ e, line_of _ e, stands _ e)
 
     none_other : r.refusal ≡ 0 → (P : Plan) × Says text P
     none_other z = go (read_of text) refl
       where
         go : (x : Reading) → read_of text ≡ x → (P : Plan) × Says text P
-        go (readTo w) e = let p = (reading-laws.accepts text w).0 e in (p.0, p.1)
-        go (notRead n l) e = absurd (omega (arith, (reading-laws.numbers text n l e).0, refusal_of_lem (notRead n l) e))
+        go (read_to w) e = let p = (reading-laws.accepts text w).0 e in (p.0, p.1)
+        go (not_read n l) e = absurd (omega (arith, (reading-laws.numbers text n l e).0, refusal_of_lem (not_read n l) e))
 
     bad : (r.refusal ≡ 0 → ⊥) → (1 ≤ r.refusal) × (r.refusal ≤ 10) × (left ≡ replicate plan_words 0 ++ drop plan_words plan)
     bad z = go (read_of text) refl
       where
         go : (x : Reading) → read_of text ≡ x → (1 ≤ r.refusal) × (r.refusal ≤ 10) × (left ≡ replicate plan_words 0 ++ drop plan_words plan)
-        go (readTo w) e = absurd (z (refusal_of_lem (readTo w) e))
-        go (notRead n l) e =
+        go (read_to w) e = absurd (z (refusal_of_lem (read_to w) e))
+        go (not_read n l) e =
             let k = reading-laws.numbers text n l e in
-            (omega (arith, k.0, refusal_of_lem (notRead n l) e), omega (arith, k.1, refusal_of_lem (notRead n l) e), stands (notRead n l) e)
+            (omega (arith, k.0, refusal_of_lem (not_read n l) e), omega (arith, k.1, refusal_of_lem (not_read n l) e), stands (not_read n l) e)
 
     fit_told : (f : Fit) → Answers text (read_of text) f → FitTold text r f
-    fit_told (fit n l) e = answered (notRead n l) e
+    fit_told (fit n l) e = answered (not_read n l) e
     fit_told (no_fit l) (P, lines, within, some, e) = (P, lines, within, some, go (leb (transfer_count (body_of (words_of P))) max_transfers) e)
       where
-        go : (b : Bool) → read_of text ≡ cond b (readTo (words_of P)) (notRead 10 l) → r ≡ cond b (record { refusal = 0; line = 0 }) (record { refusal = 10; line = l })
-        go true k = answered (readTo (words_of P)) k
-        go false k = answered (notRead 10 l) k
+        go : (b : Bool) → read_of text ≡ cond b (read_to (words_of P)) (not_read 10 l) → r ≡ cond b (record { refusal = 0; line = 0 }) (record { refusal = 10; line = l })
+        go true k = answered (read_to (words_of P)) k
+        go false k = answered (not_read 10 l) k
 
     too_long : max_bytes < length text → (r.refusal ≡ 10) × (r.line ≡ 0)
-    too_long h = let e = reading-laws.too_long text h in (refusal_of_lem (notRead 10 0) e, line_of (notRead 10 0) e)
+    too_long h = let e = reading-laws.too_long text h in (refusal_of_lem (not_read 10 0) e, line_of (not_read 10 0) e)
 
   text_read : TextRead text plan r left
   text_read =
@@ -177,7 +177,7 @@ demand_2 = record { items = items_given; edges = edges_given; total = total_give
 
 -- demand 3
 
-opened_order : (text w behind counts values : List ℕ) → read_of text ≡ readTo w → count_words ≤ length counts → value_words ≤ length values →
+opened_order : (text w behind counts values : List ℕ) → read_of text ≡ read_to w → count_words ≤ length counts → value_words ≤ length values →
     Opened text w (w ++ behind) counts values
 opened_order text w behind counts values e long_counts long_values =
     let p = (reading-laws.accepts text w).0 e in
@@ -207,7 +207,7 @@ opened_order text w behind counts values e long_counts long_values =
     read_ready : (c v : List ℕ) → length w ≡ plan_words → Clear (w ++ behind) c v → PlanReady (w ++ behind) c v
     read_ready c v size k =
         let l = (long_slices_lem (w ++ behind) c v).0 k.long in
-        record { long_plan_lem = l.0; long_counts = l.1; long_values = l.2; read = (text, e ∙ ap readTo (sym (take_at w behind plan_words size))) }
+        record { long_plan_lem = l.0; long_counts = l.1; long_values = l.2; read = (text, e ∙ ap read_to (sym (take_at w behind plan_words size))) }
 
     opened : Lent
     opened = lent_by (open_of (w ++ behind) counts values)

@@ -21,7 +21,7 @@ use Rattle.steps.proofs.Accepting.{formed_state, short_slices, open_accepted}
 use Rattle.steps.proofs.Refusals.{is_short, none_short, not_short, open_11, open_12}
 use Rattle.steps.proofs.Playing.{play_append}
 use Rattle.journal.specs.Lines.{Step, start as start_line}
-use Rattle.journal.specs.Checking.{call_of as callSaid, check_of, check_more_of}
+use Rattle.journal.specs.Checking.{call_of as call_said, check_of, check_more_of}
 use Rattle.journal.specs.Laws.{Words, Holds, play_steps, Kept as StepsKept, Checks, Completes}
 use Rattle.journal.proofs.Reaching.{Reaches, check_reaches, more_reaches}
 use Rattle.journal.proofs.Answers.{Answered, answered_apart, open_answered, more_answered}
@@ -125,12 +125,12 @@ module _ (B : Body) (plan : List ℕ) (s : Lent) (order : (l : List Call) → In
   t = play plan s before
 
   -- its steps are calls after those before
-  behind : (k : List Step) → play plan s (before ++ map callSaid k) ≡ play_steps plan t k
-  behind k = play_append plan before (map callSaid k) s
+  behind : (k : List Step) → play plan s (before ++ map call_said k) ≡ play_steps plan t k
+  behind k = play_append plan before (map call_said k) s
 
-  held_words : (k m : List Step) (a v : ℕ) → StepsKept plan t (k ++ (start_line a v ∷ m)) → v ≡ loop_word B (starts_of B plan s a (before ++ map callSaid k)) (writer (item_at B a))
+  held_words : (k m : List Step) (a v : ℕ) → StepsKept plan t (k ++ (start_line a v ∷ m)) → v ≡ loop_word B (starts_of B plan s a (before ++ map call_said k)) (writer (item_at B a))
   held_words k m a v h =
-      let l = before ++ map callSaid k in
+      let l = before ++ map call_said k in
       let u : Holds plan (play_steps plan t k) (start_line a v) = h k m (start_line a v) refl in
       let p : call_after B plan s l (start a) ≡ call plan (play_steps plan t k) (start a) = ap (λ (x : Lent). call plan x (start a)) (behind k) in
       sym u.1
@@ -146,7 +146,7 @@ module _ (B : Body) (plan : List ℕ) (s : Lent) (order : (l : List Call) → In
         state = reaches;
         fresh = λ journal.
             let (l, rest, p, k, e) = reaches journal in
-            subst (λ (x : Lent). AllFresh B x.counts x.values) (behind l ∙ sym e) (order (before ++ map callSaid l)).numbers;
+            subst (λ (x : Lent). AllFresh B x.counts x.values) (behind l ∙ sym e) (order (before ++ map call_said l)).numbers;
         words = held_words;
       }
 

@@ -24,7 +24,7 @@ use Rattle.steps.proofs.Accepting.{long_slices_lem, unless_unchanged, open_accep
 use Rattle.steps.proofs.Playing.{play_append}
 use Rattle.prepared.specs.Tables.{prepared_words, PrepareAnswer, items_in}
 use Rattle.prepared.specs.Steps.{own_in, start_ok, finish_ok, started_in, start_prepared, finished_in, finish_prepared, freed_in, FreeingAnswer}
-use Rattle.prepared.specs.Calls.{calls_of as callsMade, call_made}
+use Rattle.prepared.specs.Calls.{calls_of as calls_made, call_made}
 use Rattle.prepared.specs.Laws.{Prepared}
 use Rattle.prepared.proofs.Theorems.{laws}
 use Rattle.taskiter.specs.Demands.{Short, PreparedRefused, call_after, Freed, PreparedGiven}
@@ -180,8 +180,8 @@ module _ (plan counts values : List ℕ) (z : (open_of plan counts values).refus
         counted = laws.same_accepted plan tables' counts values tables_made z;
         next = λ m c.
             ap (λ (x : Lent). call_made plan tables' x c) (laws.same_play plan tables' counts values tables_made z m)
-            ∙ laws.same_call plan tables' counts values tables_made z (callsMade m) c;
+            ∙ laws.same_call plan tables' counts values tables_made z (calls_made m) c;
         freed = λ m a freed q freed' few F.
-            freed_listed (callsMade m) a freed q freed' few
+            freed_listed (calls_made m) a freed q freed' few
             (subst (λ (x : Lent). FreeingAnswer plan tables' x.counts x.values freed a q freed') (laws.same_play plan tables' counts values tables_made z m) F);
       }

@@ -13,7 +13,7 @@ use Rattle.finite.proofs.Tests.{and-true}
 use Rattle.finite.proofs.Collect.{get_d_map}
 use Rattle.finite.proofs.Replaced.{length_replaced, replaced_at, replaced_not}
 use Rattle.body.specs.Items.{task, item_list, item_count, item_at}
-use Rattle.body.specs.Places.{result_of as regionResult}
+use Rattle.body.specs.Places.{result_of as region_result}
 use Rattle.plan.specs.Sizes.{max_items, edge_words, count_words, value_words, result_words}
 use Rattle.plan.specs.Layout.{plan_words, body_of, regions_of}
 use Rattle.graph.specs.Table.{code_of, table_of, Graph}
@@ -126,7 +126,7 @@ module _ (P T L C W R : List ℕ) where
         results_ask = (graph_formed (take plan_words P) T1 d.items (B.clear z), G.0.idle.long_values, lists.1)
 
         pub run_shown : (i k : ℕ) (R' : List ℕ) → i ≡ d.items → k ≡ m →
-            R' ≡ replaced (λ g. ltb g (regions_of (take plan_words P))) (regionResult (body_of (take plan_words P)) (state_of [] W')) R →
+            R' ≡ replaced (λ g. ltb g (regions_of (take plan_words P))) (region_result (body_of (take plan_words P)) (state_of [] W')) R →
             Shown P T L C W R (record { refusal = 0; items = i; edges = k; steps = steps }) (T1 ++ drop max_items T) L' C' W' R'
         run_shown i k R' ei ek f =
             record {
@@ -144,11 +144,11 @@ module _ (P T L C W R : List ℕ) where
                   let few : g < length R = omega (arith, l, (facts (take plan_words P) (graph_formed (take plan_words P) T1 d.items (B.clear z))).regions_most, lists.1) in
                   let shown = ap (λ (x : Left). x.word) (result_shown P C' W' g ((ran_is.ran refl).results g l).0) in
                   ap (λ (x : List ℕ). get_or x g 0) f
-                  ∙ (replaced_at (λ g. ltb g (regions_of (take plan_words P))) (regionResult (plan_body P) (state_of [] W')) R g few
+                  ∙ (replaced_at (λ g. ltb g (regions_of (take plan_words P))) (region_result (plan_body P) (state_of [] W')) R g few
                   ∙ (rw (lt-ltb g (regions_of (take plan_words P)) l) (result_apart (plan_body P) [] C' W' g ∙ sym shown)));
               behind = λ y. (
-                ap length f ∙ length_replaced (λ g. ltb g (regions_of (take plan_words P))) (regionResult (plan_body P) (state_of [] W')) R,
-                λ g l. ap (λ (x : List ℕ). get_or x g 0) f ∙ replaced_not (λ g. ltb g (regions_of (take plan_words P))) (regionResult (plan_body P) (state_of [] W'))
+                ap length f ∙ length_replaced (λ g. ltb g (regions_of (take plan_words P))) (region_result (plan_body P) (state_of [] W')) R,
+                λ g l. ap (λ (x : List ℕ). get_or x g 0) f ∙ replaced_not (λ g. ltb g (regions_of (take plan_words P))) (region_result (plan_body P) (state_of [] W'))
                     R g (le-ltb g (regions_of (take plan_words P)) l),
               );
             }

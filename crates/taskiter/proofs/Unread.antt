@@ -19,7 +19,7 @@ use Rattle.unroll.specs.Meaning.{Agree}
 use Rattle.unroll.proofs.Local.{agree_word}
 use Rattle.body.specs.Body.{Body, Fits}
 use Rattle.body.specs.Items.{item_count, item_at, item_passes}
-use Rattle.body.specs.Places.{slot, copy, system, result_of as regionResult}
+use Rattle.body.specs.Places.{slot, copy, system, result_of as region_result}
 use Rattle.body.proofs.Accessed.{send_from}
 use Rattle.edges.specs.Tests.{kind_at}
 use Rattle.plan.specs.Layout.{plan_words, body_of}
@@ -162,7 +162,7 @@ module _ (plan plan' : List ℕ) (s t : Lent) (e : take plan_words plan ≡ take
   accepted_same (result g) h k =
       ap (λ (r : Left). r.word) (result_shown plan s.counts s.values g h)
       ∙ (result_agree B here there g (agree (result_clear plan s.counts s.values g h))
-      ∙ (ap (λ (w : List ℕ). regionResult (body_of w) there g) e ∙ ap (λ (r : Left). r.word) (sym (result_shown plan' t.counts t.values g k))))
+      ∙ (ap (λ (w : List ℕ). region_result (body_of w) there g) e ∙ ap (λ (r : Left). r.word) (sym (result_shown plan' t.counts t.values g k))))
 
   word_same : (c : Call) → (call plan s c).word ≡ (call plan' t c).word
   word_same c =

@@ -13,7 +13,7 @@ use lib.Seq.{take-append_seam}
 use Rattle.plan.specs.Limits.{max_word}
 use Rattle.plan.specs.Layout.{plan_words}
 use Rattle.reading.specs.Plan.{Plan}
-use Rattle.reading.specs.Reading.{read_of, accepted as readTo}
+use Rattle.reading.specs.Reading.{read_of, accepted as read_to}
 use Rattle.reading.specs.Written.{Rising, text_of}
 use Rattle.reading.specs.Laws.{Says}
 use Rattle.reading.proofs.Theorems.{laws, text_laws}
@@ -40,7 +40,7 @@ module _ (plan text : List ℕ) (r : Number) (text' : List ℕ) (words : (i : �
       let k = A.written z in
       ap (λ (n : ℕ). take n text') k.0 ∙ ap (take (length (plan_text plan))) k.1 ∙ take-append_seam (plan_text plan) (drop (length (plan_text plan)) text)
 
-  reads_back : r.refusal ≡ 0 → read_of (take r.number text') ≡ readTo (take plan_words plan)
+  reads_back : r.refusal ≡ 0 → read_of (take r.number text') ≡ read_to (take plan_words plan)
   reads_back z =
       let h = (accepted z).0 in
       ap read_of (begins z) ∙ text_laws.reads_back (take plan_words plan) (cut_words plan words h.0) (read_formed plan h.1)

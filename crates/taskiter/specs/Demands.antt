@@ -30,7 +30,7 @@ use Rattle.text.specs.Records.{split}
 use Rattle.reading.specs.Plan.{Plan, words_of}
 use Rattle.reading.specs.Written.{records, text_from}
 use Rattle.reading.specs.Valid.{valid}
-use Rattle.reading.specs.Reading.{read_of, accepted as readTo}
+use Rattle.reading.specs.Reading.{read_of, accepted as read_to}
 use Rattle.reading.specs.Refusals.{Fit, fit, no_fit, fit_from}
 use Rattle.reading.specs.Laws.{Says, Holds, TextLaws}
 use Rattle.reader.specs.declared.Answer.{Answer}
@@ -44,9 +44,9 @@ use Rattle.steps.specs.Calls.{Call, start, finish, result, is_start, is_finish, 
 use Rattle.steps.specs.Ready.{ReadyAnswer}
 use Rattle.prepared.specs.Tables.{prepared_words, PrepareAnswer}
 use Rattle.prepared.specs.Steps.{start_prepared, finish_prepared, FreeingAnswer}
-use Rattle.prepared.specs.Calls.{Made, calls_of as callsMade, call_made, play_made, replies_made, accepted_made}
+use Rattle.prepared.specs.Calls.{Made, calls_of as calls_made, call_made, play_made, replies_made, accepted_made}
 use Rattle.journal.specs.Lines.{Step, start as start_line, step_of}
-use Rattle.journal.specs.Checking.{call_of as callSaid, check_of, check_more_of}
+use Rattle.journal.specs.Checking.{call_of as call_said, check_of, check_more_of}
 use Rattle.journal.specs.Written.{line_of, journal_of}
 use Rattle.journal.specs.Laws.{Words, Fits, play_steps, Kept as StepsKept, Checks, Completes}
 use Rattle.taskiter.specs.Given.{FromText, ItemsGiven, EdgesGiven, TotalGiven, TextGiven}
@@ -143,7 +143,7 @@ pub record Ready (plan counts values : List ℕ) : Type 0 where
 
 -- n is how many waits of item a for the first pass that it has not finished are unmet, counted
 -- afresh over the edges; 0 once its passes are done. From each item one edge at most leads to a
--- Steps.one-edge, so that items are counted: those that some test t picks
+-- (Steps.one_edge), so that items are counted: those that some test t picks
 pub record FreshCount (B : Body) (s : State) (a n : ℕ) : Type 0 where
   pub done : item_passes B a ≤ s.finished a → n ≡ 0
   pub left : s.finished a < item_passes B a → (t : ℕ → Bool) × (n ≡ count_below (item_count B) t)
@@ -422,13 +422,13 @@ module _ (B : Body) (plan : List ℕ) (s : Lent) where
   pub record PreparedGiven (r : Number) (tables : List ℕ) : Type 0 where
     pub made : (r.refusal ≡ 0) × (r.number ≡ item_count B)
     -- its calls answer and leave what the ordinary ones do, and as many are accepted. So what is said
-    -- of the ordinary calls, `InAnyOrder` of the list `callsMade m`, holds of it
-    pub replied : (m : List Made) → replies_made plan tables s m ≡ replies plan s (callsMade m)
-    pub state : (m : List Made) → play_made plan tables s m ≡ play plan s (callsMade m)
-    pub counted : (t : Call → Bool) (m : List Made) → accepted_made plan tables t s m ≡ accepted plan t s (callsMade m)
-    pub next : (m : List Made) (c : Made) → call_made plan tables (play_made plan tables s m) c ≡ call_after (callsMade m) c.call
+    -- of the ordinary calls, `InAnyOrder` of the list `calls_made m`, holds of it
+    pub replied : (m : List Made) → replies_made plan tables s m ≡ replies plan s (calls_made m)
+    pub state : (m : List Made) → play_made plan tables s m ≡ play plan s (calls_made m)
+    pub counted : (t : Call → Bool) (m : List Made) → accepted_made plan tables t s m ≡ accepted plan t s (calls_made m)
+    pub next : (m : List Made) (c : Made) → call_made plan tables (play_made plan tables s m) c ≡ call_after (calls_made m) c.call
     pub freed : (m : List Made) (a : ℕ) (freed : List ℕ) (q : Left) (freed' : List ℕ) → max_items < length freed →
-        let t = play_made plan tables s m in FreeingAnswer plan tables t.counts t.values freed a q freed' → Freed (callsMade m) a freed q freed'
+        let t = play_made plan tables s m in FreeingAnswer plan tables t.counts t.values freed a q freed' → Freed (calls_made m) a freed q freed'
 
   -- what C gets from a check of journals after the list `before`: `check journal` is what it
   -- answers and leaves (paper 02, card 4)
@@ -445,7 +445,7 @@ module _ (B : Body) (plan : List ℕ) (s : Lent) where
     pub fresh : (journal : List ℕ) → AllFresh B (check journal).counts (check journal).values
     -- a start that holds states the word that its item's writer has in that pass of the loop
     pub words : (k m : List Step) (a v : ℕ) → StepsKept plan (play plan s before) (k ++ (start_line a v ∷ m)) →
-        v ≡ loop_word B (starts_of a (before ++ map callSaid k)) (writer (item_at B a))
+        v ≡ loop_word B (starts_of a (before ++ map call_said k)) (writer (item_at B a))
 
 -- an accepted text, its words w in a lent plan, and lent counts and values
 pub record Opened (text w plan counts values : List ℕ) : Type 0 where
@@ -482,7 +482,7 @@ pub record Opened (text w plan counts values : List ℕ) : Type 0 where
       JournalGiven (body_of w) plan (lent_by (open_of plan counts values)) before (check_more_of plan t.counts t.values)
 
 pub record Demand3 : Type 0 where
-  pub any_order : (text w behind counts values : List ℕ) → read_of text ≡ readTo w → count_words ≤ length counts → value_words ≤ length values →
+  pub any_order : (text w behind counts values : List ℕ) → read_of text ≡ read_to w → count_words ≤ length counts → value_words ≤ length values →
       Opened text w (w ++ behind) counts values
   -- kernel 3 gives the mean to the nearest, and a sum has no other such number
   pub nearest : MeanLaws

@@ -10,7 +10,7 @@ use Rattle.plan.specs.Sizes.{max_items, edge_words, text_bytes}
 use Rattle.plan.specs.Layout.{plan_words}
 use Rattle.plan.specs.Code.{code_fewer, code_rank, code_kind, code_subject}
 use Rattle.reading.specs.Plan.{Plan}
-use Rattle.reading.specs.Reading.{read_of, accepted as readTo}
+use Rattle.reading.specs.Reading.{read_of, accepted as read_to}
 use Rattle.reading.specs.Written.{Rising}
 use Rattle.reading.specs.Laws.{Says}
 use Rattle.graph.specs.declared.Number.{Number}
@@ -20,7 +20,7 @@ use Rattle.writer.specs.Answer.{plan_text}
 
 -- the plan is what reading leaves for some text
 abbrev pub FromText : List ℕ → Type 0
-FromText plan = (text : List ℕ) × (read_of text ≡ readTo (take plan_words plan))
+FromText plan = (text : List ℕ) × (read_of text ≡ read_to (take plan_words plan))
 
 -- the plan is too short, or the lent slice has fewer than n elements
 abbrev pub ShortOf : ℕ → List ℕ → List ℕ → Type 0
@@ -86,7 +86,7 @@ pub record TextGiven (plan text : List ℕ) (r : Number) (text' : List ℕ) : Ty
   -- accepted, the slice begins with the written text: it is read back to the plan, and its `start`
   -- records rise and have no value 0
   pub begins : r.refusal ≡ 0 → take r.number text' ≡ plan_text plan
-  pub reads_back : r.refusal ≡ 0 → read_of (take r.number text') ≡ readTo (take plan_words plan)
+  pub reads_back : r.refusal ≡ 0 → read_of (take r.number text') ≡ read_to (take plan_words plan)
   pub rises : r.refusal ≡ 0 → (P : Plan) × Says (take r.number text') P × Rising 0 P.starts
   -- a slice of so many bytes is long enough for every plan
   pub enough : text_bytes ≤ length text → r.refusal ≡ 19 → ⊥

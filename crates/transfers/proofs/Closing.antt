@@ -1,5 +1,5 @@
--- Closing the regions: the body's last writer of each serves the reads ahead. -none, -more and
--- -done are the loop's: before its first turn, over a turn, and after its last.
+-- Closing the regions: the body's last writer of each serves the reads ahead. _none, _more and
+-- _done are the loop's: before its first turn, over a turn, and after its last.
 use Prim.Native.Nat.{ℕ, ◌+◌, ◌*◌, ◌/◌, ◌%◌, ◌≤◌, ◌<◌}
 use mathlib.Core.Path.{◌≡◌, refl, sym, ◌∙◌, ap, ap₂, subst}
 use mathlib.Core.Bool.{Bool, true, false, cond, not, ◌&&◌, ◌||◌, or-false, and-false}

@@ -128,7 +128,7 @@ module _ (w : List ℕ) (F : Formed w) where
       (λ k u. or_assoc (p k) (any_below n (λ m. sets w t m k)) (sets w t n k))
       (flags_claimed (λ k. p k || any_below n (λ m. sets w t m k)) marks (is_read w t n) (found w t n) (rank_of w t) (flags_marked t p flags l f n (omega arith))))
 
-  -- markedTasks
+  -- marked_tasks
 
   pub flags_tasks : (t : ℕ) → t ≤ tasks_of w → Flags (set_before w t) (marked_tasks w (no_writers (regions_of w)) t (replicate plan_flags 0))
   unfolding marked_tasks any_below

@@ -19,7 +19,7 @@ use Rattle.plan.specs.Limits.{max_regions}
 use Rattle.transfers.specs.Wanted.{plan_masks, all_masks, has_rank}
 use Rattle.transfers.specs.Search.{flag_count, flags_of, Raised, Tallied, access_flags, plan_flags}
 
--- flagCount
+-- flag_count
 
 count_most : (flags : List ℕ) → flag_count flags ≤ access_flags
 unfolding flag_count

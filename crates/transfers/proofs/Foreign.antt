@@ -60,7 +60,7 @@ module _ (w : List ℕ) where
   foreign_of : (i a q : ℕ) → Foreign i a q → foreign i a q ≡ true
   foreign_of i a q o = rw (lt-ltb i (tasks_of w) o.task, lt-ltb a (accesses_of w i) o.below, o.writes, lt-ltb q (ranks_of w) o.rank, ne_eqb q (rank_of w i) o.other)
 
-  -- forwardAt, wantedAt
+  -- forward_at, wanted_at
 
   forward_parts : (i a q : ℕ) → (foreign i a q && forward (body_of w) i (region_at w i a) q) ≡ forward_at w i a q
   unfolding forward_at

@@ -1,5 +1,5 @@
 -- What `last` holds after the writes of the tasks before t: the last of them that wrote each region
--- of the plan, or that none did. -none, -more and -done are a loop's: before its first turn, over a
+-- of the plan, or that none did. _none, _more and _done are a loop's: before its first turn, over a
 -- turn, and after its last.
 use Prim.Native.Nat.{ℕ, zero, suc, ◌+◌, ◌*◌, ◌≤◌, ◌<◌}
 use mathlib.Core.Path.{◌≡◌, refl, sym, ◌∙◌, ap, subst}
@@ -98,7 +98,7 @@ pub noted_own : (row : List ℕ) (base n a : ℕ) (last xs : List ℕ) → Apart
 unfolding Apart
 noted_own row base n a last xs h l e = rw e (noted_kept row base a last (region_in row a) (λ b k _ z. let q : b ≡ a = h b a (omega arith) l z in omega arith))
 
--- notedTasks
+-- noted_tasks
 
 pub noted_tasks_none : (w last : List ℕ) → last ≡ noted_tasks w 0 last
 unfolding noted_tasks
@@ -112,7 +112,7 @@ noted_tasks_more w t last xs ys h e = rw (add-one, e, h)
 pub noted_tasks_done : (w : List ℕ) (n t : ℕ) (last xs : List ℕ) → xs ≡ noted_tasks w t last → n ≤ t → t ≤ n → xs ≡ noted_tasks w n last
 noted_tasks_done w n t last xs h p q = let e : n ≡ t = omega arith in rw e h
 
--- noWriters
+-- no_writers
 
 pub sources_none : (n : ℕ) → Sources (no_writers n)
 sources_none n = record { size = length_tabulate (λ g. cond (ltb g n) (unwritten g) 0) max_regions; each = below }

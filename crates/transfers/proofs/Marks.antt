@@ -1,4 +1,4 @@
--- The turns of the loops that set flags: -none, -more and -done are a loop's, before its first
+-- The turns of the loops that set flags: _none, _more and _done are a loop's, before its first
 -- turn, over a turn, and after its last.
 use Prim.Native.Nat.{ℕ, ◌+◌, ◌*◌, ◌/◌, ◌≤◌, ◌<◌}
 use mathlib.Core.Path.{◌≡◌, refl, ◌∙◌}
@@ -47,7 +47,7 @@ pub marked_task_lem : (w : List ℕ) (table : List (List ℕ)) (t rank n : ℕ) 
     → xs ≡ marked (get_or table t []) last rank n flags → xs ≡ marked_task w last t flags
 marked_task_lem w table t rank n last flags xs r q e f = f ∙ rw (q, e, r.row)
 
--- markedTasks
+-- marked_tasks
 
 pub marked_tasks_none : (w last flags : List ℕ) → flags ≡ marked_tasks w last 0 flags
 unfolding marked_tasks

@@ -48,7 +48,7 @@ pub row_more : (w : List ℕ) (t a x v : ℕ) (row : List ℕ) → take a row �
     → take (a + 1) (set row a v) ≡ tabulate (a + 1) (access_at w t)
 row_more w t a x v row h l size e f = tabulate_more (access_at w t) a v row h (omega arith) (f ∙ e)
 
--- the table: -none and -more are those of the loop that fills it
+-- the table: _none and _more are those of the loop that fills it
 
 pub rows_at : (w : List ℕ) (n t : ℕ) (table : List (List ℕ)) → Rows w n table → t < n → get_or table t [] ≡ row_of w t
 unfolding Rows

@@ -28,7 +28,7 @@ mask_of p = sum_below max_ranks (λ q. cond (p q) (2 ^ q) 0)
 abbrev pub mask_by : (ℕ → ℕ → ℕ → Bool) → ℕ → ℕ → ℕ
 mask_by p i a = mask_of (p i a)
 
--- at maxAccesses i + a
+-- at max_accesses i + a
 abbrev pub masks_by : (ℕ → ℕ → ℕ → Bool) → List ℕ
 masks_by p = tabulate plan_masks (λ k. mask_by p (k / max_accesses) (k % max_accesses))
 

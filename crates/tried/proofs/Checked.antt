@@ -11,7 +11,7 @@ use Rattle.text.specs.Digits.{digits}
 use Rattle.text.specs.Numbers.{number_of, well_formed}
 use Rattle.graph.specs.Answers.{plan_body}
 use Rattle.steps.specs.Answers.{Left}
-use Rattle.steps.specs.Calls.{start as startCall, Lent, call, play, accepted}
+use Rattle.steps.specs.Calls.{start as start_call, Lent, call, play, accepted}
 use Rattle.journal.specs.Lines.{Step, start, step_of}
 use Rattle.journal.specs.Written.{journal_of}
 use Rattle.journal.specs.Laws.{Kept, unended, untrue, Checks, Completes}
@@ -53,7 +53,7 @@ module _ (plan : List ℕ) (s : Lent) (check : List ℕ → Left) (C : Checks pl
       (r.0, r.1)
 
   -- item 0 starts with 6
-  module _ (z : (call plan s (startCall 0)).refusal ≡ 0) (w : (call plan s (startCall 0)).word ≡ 6) where
+  module _ (z : (call plan s (start_call 0)).refusal ≡ 0) (w : (call plan s (start_call 0)).word ≡ 6) where
     first_kept : Kept plan s (start 0 6 ∷ [])
     unfolding play
     first_kept [] m e p = let q : e ≡ start 0 6 = cc in rw q (z, w)
@@ -73,7 +73,7 @@ module _ (plan : List ℕ) (s : Lent) (check : List ℕ → Left) (C : Checks pl
         (r.0, r.1)
 
   -- item 3 does not start
-  pub early_refused : (call plan s (startCall 3)).refusal ≡ 16 → ((check (ascii "start\t3\t6\n")).refusal ≡ 21) × ((check (ascii "start\t3\t6\n")).word ≡ 1)
+  pub early_refused : (call plan s (start_call 3)).refusal ≡ 16 → ((check (ascii "start\t3\t6\n")).refusal ≡ 21) × ((check (ascii "start\t3\t6\n")).word ≡ 1)
   unfolding play
   early_refused n =
       let r = C.stops_at [] (ascii "start\t3\t6\n") 21 none_kept (untrue (ascii "start\t3\t6") [] [] (start 3 6) refl early_says (λ h. omega (arith, h.0, n))) in

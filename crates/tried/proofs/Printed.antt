@@ -15,7 +15,7 @@ use Rattle.edges.specs.Touch.{touch, touch_on}
 use Rattle.edges.specs.Tests.{written, written_between as between, crossed, paired, copy_edge, edge_test}
 use Rattle.edges.specs.EdgeList.{edges_from, edge_list}
 use Rattle.plan.specs.Layout.{body_of}
-use Rattle.reading.specs.Reading.{read_of, accepted as readTo}
+use Rattle.reading.specs.Reading.{read_of, accepted as read_to}
 use Rattle.graph.specs.Answers.{plan_body}
 use Rattle.steps.specs.Answers.{result_of}
 use Rattle.steps.specs.Calls.{Call, is_step, Lent, play, accepted}
@@ -44,7 +44,7 @@ unfolding end_lines collect
 two_values plan s l n v u regions steps first second = rw (regions, steps, first, second)
 
 -- of an accepted text with two regions, by its total and the final numbers of the loop
-module _ (text w : List ℕ) (read : read_of text ≡ readTo w) where
+module _ (text w : List ℕ) (read : read_of text ≡ read_to w) where
   abbrev s : Lent
   s = open_state w
 

@@ -23,7 +23,7 @@ use Rattle.waits.specs.Waits.{fresh_count}
 use Rattle.waits.proofs.Unmet.{count_agree}
 use Rattle.finite.proofs.Members.{at_in}
 use Rattle.plan.specs.Layout.{plan_words, body_of}
-use Rattle.reading.specs.Reading.{read_of, accepted as readTo}
+use Rattle.reading.specs.Reading.{read_of, accepted as read_to}
 use Rattle.kernels.proofs.Cases.{mean_widest, mean_rounded, mean_of_3, mean_of_6, mean_of_10, sum_wraps, difference_wraps}
 use Rattle.graph.specs.Answers.{plan_body}
 use Rattle.tried.proofs.Cases.{two_ranks_edges, two_readers_edges, unmet_opened, unmet_task_run, unmet_send_run, unmet_ended, unmet_wrapped, targets_example, sources_example}
@@ -46,7 +46,7 @@ use Rattle.tried.proofs.Drawn.{example_items, example_passes, example_total, ahe
 
 module _ (D : Demands) where
   -- what the demands say of a fresh state of the example with p passes
-  module _ (p : ℕ) (text : List ℕ) (read : read_of text ≡ readTo (example_words p)) (plan : List ℕ) (s : Lent) (F : Fresh p plan s) where
+  module _ (p : ℕ) (text : List ℕ) (read : read_of text ≡ read_to (example_words p)) (plan : List ℕ) (s : Lent) (F : Fresh p plan s) where
     run : Opened text (example_words p) plan F.counts F.values
     run =
         subst (λ (q : List ℕ). Opened text (example_words p) q F.counts F.values) (sym F.holds)

@@ -13,7 +13,7 @@ use Rattle.waits.specs.Waits.{fresh_count}
 use Rattle.waits.specs.InStep.{sources_of}
 use Rattle.plan.specs.Limits.{max_word}
 use Rattle.plan.specs.Layout.{body_of}
-use Rattle.reading.specs.Reading.{read_of, read_within, accepted as readTo, refused}
+use Rattle.reading.specs.Reading.{read_of, read_within, accepted as read_to, refused}
 use Rattle.reading.specs.Written.{text_of}
 use Rattle.steps.specs.State.{count_words, value_words, first_unmet, unmet_by}
 use Rattle.steps.specs.Answers.{Left, open_of}
@@ -105,11 +105,11 @@ CheckedTo journal refusal number = (plan : List ℕ) (s : Lent) (F : Fresh 2 pla
 
 pub record Table : Type 0 where
   -- the texts are read to these words
-  pub example_read : read_of example ≡ readTo (example_words 2)
-  pub no_pass_read : read_of no_pass ≡ readTo (example_words 0)
-  pub readers_read : read_of readers ≡ readTo readers_words
+  pub example_read : read_of example ≡ read_to (example_words 2)
+  pub no_pass_read : read_of no_pass ≡ read_to (example_words 0)
+  pub readers_read : read_of readers ≡ read_to readers_words
   -- card 1: the example and the text in another order are read to the same words, and the example is their written text
-  pub unordered_read : read_of unordered ≡ readTo (example_words 2)
+  pub unordered_read : read_of unordered ≡ read_to (example_words 2)
   pub written : text_of (example_words 2) ≡ example
   -- A the edges that the paper prints
   pub case_a : AllEdges (body_of (example_words 2)) ten_edges
@@ -127,16 +127,16 @@ pub record Table : Type 0 where
       ++ (ascii "edge 0 0 1\nedge 0 1 0\nedge 1 0 1\nedge 1 1 1\nedge 1 2 0\nedge 2 1 1\nedge 2 2 1\nedge 2 3 0\n"
       ++ ascii "edge 3 2 1\nedge 3 3 1\nsteps 16\nvalue 0 7\nvalue 1 13\n")
   -- card 2: the send and the receive, items 2 and 3, have one pass and the tasks two, so 12 steps
-  pub ahead_read : read_of ahead ≡ readTo ahead_words
+  pub ahead_read : read_of ahead ≡ read_to ahead_words
   pub ahead_passes : map (item_passes (body_of ahead_words)) (0 ∷ 1 ∷ 2 ∷ 3 ∷ []) ≡ 2 ∷ 2 ∷ 1 ∷ 1 ∷ []
   pub ahead_printed : lines_of ahead ≡
       ascii "item 0 task 0\nitem 1 task 1\nitem 2 send 1\nitem 3 receive 0\n"
       ++ (ascii "edge 0 0 1\nedge 0 3 0\nedge 1 1 1\nedge 1 2 0\nedge 2 1 1\nedge 2 2 1\nedge 2 3 0\nedge 3 0 1\n"
       ++ ascii "edge 3 2 1\nedge 3 3 1\nsteps 12\nvalue 0 7\nvalue 1 11\n")
   -- card 5: 1,000,001 passes, which the limit of before refused with 3, and 10^12 are read; one more gives 3
-  pub more_passes_read : read_of (example_of "1000001") ≡ readTo (example_words 1000001)
+  pub more_passes_read : read_of (example_of "1000001") ≡ read_to (example_words 1000001)
   pub more_passes_before : read_within 1000000 (example_of "1000001") ≡ refused 3 1
-  pub most_passes_read : read_of (example_of "1000000000000") ≡ readTo (example_words (10 ^ 12))
+  pub most_passes_read : read_of (example_of "1000000000000") ≡ read_to (example_words (10 ^ 12))
   pub too_many_passes : read_of (example_of "1000000000001") ≡ refused 3 1
   -- with 10^12 passes: some list leads to the end, and every such list has 8 × 10^12 accepted steps; region 0 is 10^12 + 5 then
   pub most_passes_end : (plan : List ℕ) (s : Lent) → Fresh (10 ^ 12) plan s → (l : List Call) → (after plan s l (result 0)).refusal ≡ 0 →

@@ -88,7 +88,7 @@ module _ (S : System) where
   answer s (start a) = word_on S a s.places
   answer s (finish a) = s.held a
 
-  -- a test of acceptance: the machine is the same for each Meaning.same-machine
+  -- a test of acceptance: the machine is the same for each (Meaning.same_machine)
   abbrev pub Decides : Type 0
   Decides = (s : State) (c : Call) → Dec (Can s c)
 

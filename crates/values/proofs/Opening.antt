@@ -1,4 +1,4 @@
--- Laws of opening the values of a state. Those that end in -none, -more and -done are a loop's:
+-- Laws of opening the values of a state. Those that end in _none, _more and _done are a loop's:
 -- before its first turn, over a turn, and after its last.
 use Prim.Native.Nat.{ℕ, ◌+◌, ◌-◌, ◌*◌, ◌%◌, ◌≤◌, ◌<◌}
 use mathlib.Core.Path.{◌≡◌, refl, sym, ◌∙◌, ap}

@@ -20,7 +20,7 @@ use Rattle.body.proofs.Accessed.{Known, item_known}
 use Rattle.edges.specs.Tests.{rank_at}
 use Rattle.plan.specs.Sizes.{value_words, slot_of}
 use Rattle.plan.specs.Code.{code_kind, code_subject}
-use Rattle.plan.specs.Layout.{body_of, writes_of as taskWrites}
+use Rattle.plan.specs.Layout.{body_of, writes_of as task_writes}
 use Rattle.graph.specs.Table.{subject_of}
 use Rattle.values.specs.Items.{Found, regions_written}
 use Rattle.values.proofs.Finding.{facts, fits, number_most, found_kind, found_subject, found_task, receive_least}
@@ -94,7 +94,7 @@ mem_places B a first y (receive i g q) e =
 
 module _ (w : List ℕ) (a code : ℕ) (F : Found w a code) (v : ℕ) (xs : List ℕ) where
   -- a task writes the regions of its record
-  pub copies_task : (i : ℕ) (ys : List ℕ) → code_kind code ≡ 0 → i ≡ code_subject code → ys ≡ replaced (λ g. mem g (taskWrites w i)) (λ g. v) xs →
+  pub copies_task : (i : ℕ) (ys : List ℕ) → code_kind code ≡ 0 → i ≡ code_subject code → ys ≡ replaced (λ g. mem g (task_writes w i)) (λ g. v) xs →
       ys ≡ replaced (λ g. mem g (regions_written (body_of w) (item_at (body_of w) a))) (λ g. v) xs
   unfolding regions_written
   copies_task i ys z s h = rw (found_task w a code F z, ← s) h

@@ -1,5 +1,5 @@
 -- The numbers in a list, in the shape of code, and the laws of the loop that lowers them (-none,
--- -more, -done: before its first turn, over a turn, and after its last).
+-- _more, _done: before its first turn, over a turn, and after its last).
 use Prim.Native.Nat.{ℕ, suc, ◌+◌, ◌-◌, ◌≤◌, ◌<◌}
 use mathlib.Core.Path.{◌≡◌, refl, sym, ◌∙◌, ap}
 use mathlib.Core.Bool.{Bool, true, false, cond, ◌&&◌, ◌||◌}
