@@ -12,7 +12,7 @@ use Rattle.finite.proofs.Tests.{and-true, not_both}
 use Rattle.body.specs.Transfers.{equals, source, transferred, wanted}
 use Rattle.transfers.specs.Search.{access_flags}
 use Rattle.form.specs.Changes.{change_count, changed}
-use Rattle.plan.specs.Layout.{accesses_of, at, body_of, is_read, is_written, rank_of, ranks_of, reads_of, region_at, tasks_of}
+use Rattle.plan.specs.Layout.{accesses_of, body_of, is_read, is_written, rank_of, ranks_of, reads_of, region_at, tasks_of}
 use Rattle.transfers.specs.Wanted.{wanted_at}
 use Rattle.plan.proofs.Facts.{Formed}
 use Rattle.form.proofs.Trace.{Traced, last_is, trace}

@@ -11,7 +11,7 @@ use Rattle.finite.proofs.Tests.{and-true, false_of, not_both}
 use Rattle.body.specs.Body.{Body}
 use Rattle.body.specs.Transfers.{equals, last_before, source}
 use Rattle.form.specs.Changes.{changed, last_rank, names}
-use Rattle.plan.specs.Layout.{accesses_of, at, body_of, is_written, rank_of, region_at, tasks_of, writes_of}
+use Rattle.plan.specs.Layout.{accesses_of, body_of, is_written, rank_of, region_at, tasks_of, writes_of}
 
 pub last_is : (o : Option ℕ) (q : ℕ) → equals o q ≡ true → o ≡ some q
 last_is none q h = absurd (not_both h refl)

@@ -16,7 +16,6 @@ use Rattle.kernels.specs.Kernels.{suits}
 use Rattle.text.specs.Records.{split}
 use Rattle.text.proofs.SplitLaws.{split_cons}
 use Rattle.text.proofs.Fields.{split_at}
-use Rattle.plan.specs.Layout.{at}
 use Rattle.plan.specs.Limits.{max_passes, max_ranks, max_regions, max_tasks}
 use Rattle.reading.specs.Plan.{Access, Plan, Start, Task, named, read_count, started}
 use Rattle.reading.specs.Reading.{State, Step, at_end, closed, first, next, on_step, opened, read_from, refuse, step}

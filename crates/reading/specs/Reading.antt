@@ -13,7 +13,7 @@ use Rattle.kernels.specs.Kernels.{suits}
 use Rattle.body.specs.Transfers.{transfer_count}
 use Rattle.plan.specs.Limits.{max_bytes, max_passes, max_ranks, max_regions, max_tasks, max_accesses, max_transfers, max_kernel, max_word}
 use Rattle.plan.specs.Layout.{body_of}
-use Rattle.reading.specs.Plan.{Start, Access, Task, Plan, started, named, read_count, words_of}
+use Rattle.reading.specs.Plan.{Task, Plan, started, named, read_count, words_of}
 
 -- the answer: the plan's words, or the refusal's number and line
 pub data Reading : Type 0 where

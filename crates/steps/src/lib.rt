@@ -2,4 +2,3 @@
 // lent state, and lists of calls (specs/); that they are the steps of the machine of `unroll`, and
 // so compute the loop in any order (proofs/).
 #![tactic(auto)]
-

@@ -2,7 +2,6 @@ use Prim.Native.Nat.{ℕ}
 use mathlib.Core.List.{[], ◌∷◌, ◌++◌}
 use mathlib.Core.Path.{sym, ap}
 use native.Mathlib.Omega.{arith}
-use borrow.Author.Rules.{rules}
 use Rattle.finite.proofs.Puts.{added_append, added_same, room_first, room_rest, room_same}
 use Rattle.lines.specs.Lines.{field, edge_line}
 use Rattle.lines.specs.Tables.{edge_line_at}

@@ -1,7 +1,4 @@
-use Prim.Native.Nat.{◌-◌, ◌≤◌}
 use borrow.Author.Rules.{rules}
-use Rattle.finite.specs.Lists.{collect}
-use Rattle.finite.specs.Put.{Added}
 use Rattle.finite.proofs.Puts.{added_put, room_start, collect_none, collect_fits, collect_more, collect_done}
 use Rattle.lines.specs.Tables.{edge_line_at}
 use Rattle.lines.proofs.put_edges.Goals as goal

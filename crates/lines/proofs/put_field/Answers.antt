@@ -1,5 +1,4 @@
 use mathlib.Core.Path.{sym}
-use borrow.Author.Rules.{rules}
 use Rattle.finite.proofs.Puts.{added_same, room_same}
 use Rattle.lines.proofs.Fields.{field_digits}
 use Rattle.lines.proofs.put_field.Goals as goal

@@ -2,7 +2,6 @@ use Prim.Native.Nat.{ℕ}
 use mathlib.Core.List.{[], ◌∷◌, ◌++◌}
 use mathlib.Core.Path.{sym, ◌∙◌, ap}
 use native.Mathlib.Omega.{arith}
-use borrow.Author.Rules.{rules}
 use Rattle.finite.proofs.Puts.{added_append, added_same, room_first, room_rest, room_same}
 use Rattle.plan.specs.Code.{code_kind, code_rank}
 use Rattle.lines.specs.Lines.{field, kind_field, item_line}

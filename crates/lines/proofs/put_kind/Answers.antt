@@ -1,5 +1,4 @@
 use mathlib.Core.Path.{sym, ap}
-use borrow.Author.Rules.{rules}
 use Rattle.finite.proofs.Puts.{added_same, room_same}
 use Rattle.lines.specs.Lines.{kind_field}
 use Rattle.lines.proofs.Fields.{kind_other}

@@ -1,7 +1,6 @@
 use mathlib.Core.List.{List, [], ◌∷◌, ◌++◌}
 use mathlib.Core.Path.{sym, ap}
 use Prim.Native.Nat.{ℕ}
-use borrow.Author.Rules.{rules}
 use Rattle.finite.proofs.Puts.{added_same, room_same}
 use Rattle.lines.proofs.Fields.{field_digits}
 use Rattle.lines.proofs.put_last.Goals as goal

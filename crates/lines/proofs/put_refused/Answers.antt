@@ -1,5 +1,4 @@
 use native.Mathlib.Omega.{arith}
-use borrow.Author.Rules.{rules}
 use Rattle.finite.proofs.Puts.{added_append, added_put, room_first, room_rest, room_start}
 use Rattle.lines.specs.Lines.{refused_line}
 use Rattle.lines.proofs.put_refused.Goals as goal

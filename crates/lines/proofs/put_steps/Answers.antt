@@ -1,5 +1,4 @@
 use native.Mathlib.Omega.{arith}
-use borrow.Author.Rules.{rules}
 use Rattle.finite.proofs.Puts.{added_append, added_put, room_rest, room_start}
 use Rattle.lines.specs.Lines.{steps_line}
 use Rattle.lines.proofs.put_steps.Goals as goal

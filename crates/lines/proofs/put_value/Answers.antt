@@ -1,5 +1,4 @@
 use native.Mathlib.Omega.{arith}
-use borrow.Author.Rules.{rules}
 use Rattle.finite.proofs.Puts.{added_append, room_first, room_rest}
 use Rattle.lines.specs.Lines.{value_line}
 use Rattle.lines.specs.Tables.{value_line_at}

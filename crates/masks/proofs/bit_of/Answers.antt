@@ -1,4 +1,3 @@
-use borrow.Author.Rules.{rules}
 use Rattle.masks.proofs.Bits.{power_word}
 use Rattle.masks.proofs.bit_of.Goals as goal
 

@@ -1,7 +1,6 @@
 use Prim.Native.Nat.{ℕ, ◌/◌, ◌^◌}
 use mathlib.Core.Path.{◌∙◌, ap}
 use native.Mathlib.Omega.{arith}
-use borrow.Author.Rules.{rules}
 use Rattle.masks.proofs.Bits.{insert_fits, inserted}
 use Rattle.masks.proofs.insert.Goals as goal
 

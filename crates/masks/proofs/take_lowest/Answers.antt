@@ -1,13 +1,13 @@
-use Prim.Native.Nat.{ℕ, ◌+◌, ◌-◌, ◌*◌, ◌≤◌}
-use mathlib.Core.Path.{◌≡◌, refl, subst}
+use Prim.Native.Nat.{ℕ, ◌+◌, ◌-◌, ◌*◌}
+use mathlib.Core.Path.{refl, subst}
 use mathlib.Core.List.{List}
 use native.Mathlib.Omega.{arith}
 use borrow.Author.Rules.{rules}
 use lib.Bits.{bit_and}
-use lib.ListN.{length, get_or, set, length-set}
+use lib.ListN.{get_or, set}
 use Rattle.plan.specs.Sizes.{max_items}
-use Rattle.masks.specs.Masks.{mask_words, Lowest}
-use Rattle.masks.proofs.Bits.{NoneIn, none_yet, none_more, lowest_none, bit_below, lowest_taken}
+use Rattle.masks.specs.Masks.{Lowest}
+use Rattle.masks.proofs.Bits.{none_yet, none_more, lowest_none, bit_below, lowest_taken}
 use Rattle.masks.proofs.take_lowest.Goals as goal
 
 pub loop-k-init : goal.loop-k-init

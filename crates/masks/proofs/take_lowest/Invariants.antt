@@ -1,13 +1,8 @@
-use Prim.Native.Nat.{ℕ, ◌+◌, ◌-◌, ◌*◌, ◌≤◌}
-use mathlib.Core.Path.{◌≡◌, refl, subst}
-use mathlib.Core.List.{List}
-use native.Mathlib.Omega.{arith}
-use borrow.Author.Rules.{rules}
-use lib.Bits.{bit_and}
-use lib.ListN.{length, get_or, set, length-set}
-use Rattle.plan.specs.Sizes.{max_items}
-use Rattle.masks.specs.Masks.{mask_words, Lowest}
-use Rattle.masks.proofs.Bits.{NoneIn, none_yet, none_more, lowest_none, bit_below, lowest_taken}
+use Prim.Native.Nat.{◌-◌, ◌≤◌}
+use mathlib.Core.Path.{◌≡◌}
+use lib.ListN.{length}
+use Rattle.masks.specs.Masks.{mask_words}
+use Rattle.masks.proofs.Bits.{NoneIn}
 use Rattle.masks.proofs.take_lowest.Given as goal
 
 abbrev pub invariant-loop-k : goal.invariant-loop-k

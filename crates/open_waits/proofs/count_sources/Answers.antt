@@ -1,6 +1,5 @@
 use mathlib.Core.Path.{◌∙◌}
 use native.Mathlib.Omega.{arith}
-use borrow.Author.Rules.{rules}
 use Rattle.open_waits.proofs.Counting.{Coded, item_within, rank_within, place_within, send_before, task_coded, counted_none, task_counted, region_counted}
 use Rattle.open_waits.proofs.count_sources.Goals as goal
 use Rattle.open_waits.proofs.count_sources.Goals.{After-narrow_16-mark}

@@ -1,9 +1,8 @@
-use Prim.Native.Nat.{◌-◌, ◌≤◌}
+use Prim.Native.Nat.{◌-◌}
 use mathlib.Core.Path.{refl}
 use native.Mathlib.Omega.{arith}
 use borrow.Author.Rules.{rules}
-use Rattle.open_waits.specs.Sources.{max_events, Counted}
-use Rattle.open_waits.proofs.Marks.{Left, left_more, left_none}
+use Rattle.open_waits.proofs.Marks.{left_more, left_none}
 use Rattle.open_waits.proofs.mark_chain.Goals as goal
 
 pub loop-left-init : goal.loop-left-init

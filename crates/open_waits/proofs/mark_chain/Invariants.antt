@@ -1,9 +1,6 @@
-use Prim.Native.Nat.{◌-◌, ◌≤◌}
-use mathlib.Core.Path.{refl}
-use native.Mathlib.Omega.{arith}
-use borrow.Author.Rules.{rules}
+use Prim.Native.Nat.{◌≤◌}
 use Rattle.open_waits.specs.Sources.{max_events, Counted}
-use Rattle.open_waits.proofs.Marks.{Left, left_more, left_none}
+use Rattle.open_waits.proofs.Marks.{Left}
 use Rattle.open_waits.proofs.mark_chain.Given as goal
 
 abbrev pub invariant-loop-left : goal.invariant-loop-left

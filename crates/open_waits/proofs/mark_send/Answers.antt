@@ -1,6 +1,5 @@
 use mathlib.Core.Bool.{or-false}
 use mathlib.Core.Path.{sym, ◌∙◌}
-use borrow.Author.Rules.{rules}
 use borrow.Author.Tests.{ne_eqb}
 use Rattle.open_waits.specs.Sources.{marked}
 use Rattle.open_waits.proofs.mark_send.Goals as goal

@@ -1,14 +1,11 @@
-use Prim.Native.Nat.{◌-◌, ◌≤◌}
-use mathlib.Core.Path.{◌≡◌, refl}
+use mathlib.Core.Path.{refl}
 use borrow.Author.Rules.{rules}
-use lib.ListN.{length, length-set}
-use Rattle.finite.specs.Update.{replaced}
-use Rattle.finite.proofs.Within.{within, within_filled_none, within_filled_done}
+use lib.ListN.{length-set}
+use Rattle.finite.proofs.Within.{within_filled_none, within_filled_done}
 use Rattle.plan.specs.Sizes.{first_unmet}
 use Rattle.plan.specs.Layout.{body_of}
 use Rattle.graph.proofs.Lookup.{fewer_few}
 use Rattle.steps.specs.Answers.{open_count}
-use Rattle.open_waits.specs.Sources.{ItemsPassed}
 use Rattle.open_waits.proofs.Opening.{passed_none, numbers_more}
 use Rattle.open_waits.proofs.open_numbers.Goals as goal
 

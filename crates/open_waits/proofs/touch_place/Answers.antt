@@ -1,6 +1,5 @@
 use mathlib.Core.Path.{◌∙◌}
 use native.Mathlib.Omega.{arith}
-use borrow.Author.Rules.{rules}
 use Rattle.open_waits.proofs.Marks.{placed_write, placed_read}
 use Rattle.open_waits.proofs.touch_place.Goals as goal
 

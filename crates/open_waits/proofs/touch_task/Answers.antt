@@ -1,8 +1,6 @@
-use Prim.Native.Nat.{◌-◌}
 use mathlib.Core.Path.{refl}
 use borrow.Author.Rules.{rules}
-use Rattle.graph.proofs.Accesses.{Passed}
-use Rattle.open_waits.proofs.TaskTouch.{Accessed, task_none, task_more, task_done}
+use Rattle.open_waits.proofs.TaskTouch.{task_none, task_more, task_done}
 use Rattle.open_waits.proofs.touch_task.Goals as goal
 
 pub loop-k-init : goal.loop-k-init

@@ -1,4 +1,3 @@
-use borrow.Author.Rules.{rules}
 use Rattle.transfers.proofs.Places.{base_word}
 use Rattle.transfers.proofs.base_of.Goals as goal
 

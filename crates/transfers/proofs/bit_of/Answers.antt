@@ -1,4 +1,3 @@
-use borrow.Author.Rules.{rules}
 use Rattle.transfers.proofs.Places.{power_word}
 use Rattle.transfers.proofs.bit_of.Goals as goal
 

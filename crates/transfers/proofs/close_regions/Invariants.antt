@@ -1,7 +1,5 @@
 use Prim.Native.Nat.{◌≤◌, ◌-◌}
-use borrow.Author.Rules.{rules}
 use Rattle.transfers.specs.Search.{Closed}
-use Rattle.transfers.proofs.Closing.{closed_long, closed_size, closed_most, ahead_long, same_long, same_size, sources_last, region_few, closed_more, closed_done}
 use Rattle.transfers.proofs.close_regions.Given as goal
 
 abbrev pub invariant-loop-closed : goal.invariant-loop-closed

@@ -1,10 +1,6 @@
-use Prim.Native.Nat.{◌≤◌, ◌-◌}
-use mathlib.Core.Path.{◌≡◌, refl}
+use mathlib.Core.Path.{refl}
 use native.Mathlib.Nat.{le_of_eq}
 use borrow.Author.Rules.{rules}
-use lib.ListN.{length}
-use Rattle.plan.specs.Limits.{max_tasks}
-use Rattle.transfers.specs.Search.{Rows}
 use Rattle.transfers.proofs.Rows.{narrow, rows_none, rows_more, laid}
 use Rattle.transfers.proofs.Last.{sources_named}
 use Rattle.transfers.proofs.FlagsOf.{tallied_none}

@@ -11,18 +11,16 @@ overflow_add-result c =
     omega (arith, tallied_most _ _ _ c.requires.2, c.set_bit.ensures.2)
 
 pub returns-then-at-lt-PLAN_MASKS : goal.returns-then-at-lt-PLAN_MASKS
-returns-then-at-lt-PLAN_MASKS c =
-    (
-      access_flags_lem _ _ _ c.requires.2 _ _ c.requires.1 c.if-at-lt-PLAN_MASKS.true _ c.set_bit.ensures.0,
-      access_tally _ _ _ c.requires.2 _ _ c.requires.1 c.if-at-lt-PLAN_MASKS.true _ c.set_bit.ensures.0 _ c.set_bit.ensures.1,
-    )
+returns-then-at-lt-PLAN_MASKS c = (
+  access_flags_lem _ _ _ c.requires.2 _ _ c.requires.1 c.if-at-lt-PLAN_MASKS.true _ c.set_bit.ensures.0,
+  access_tally _ _ _ c.requires.2 _ _ c.requires.1 c.if-at-lt-PLAN_MASKS.true _ c.set_bit.ensures.0 _ c.set_bit.ensures.1,
+)
 
 pub set_bit-requires-2 : goal.set_bit-requires-2
 set_bit-requires-2 c = (omega (arith, c.requires.2.regions, c.requires.0, c.if-at-lt-PLAN_MASKS.false), search rules)
 
 pub returns : goal.returns
-returns c =
-    (
-      region_flags _ _ _ c.requires.2 _ _ c.requires.1 c.requires.0 _ (omega (arith, c.if-at-lt-PLAN_MASKS.false)) _ c.set_bit-2.ensures.0,
-      region_tally _ _ _ c.requires.2 _ _ c.requires.1 c.requires.0 _ (omega (arith, c.if-at-lt-PLAN_MASKS.false)) _ c.set_bit-2.ensures.0,
-    )
+returns c = (
+  region_flags _ _ _ c.requires.2 _ _ c.requires.1 c.requires.0 _ (omega (arith, c.if-at-lt-PLAN_MASKS.false)) _ c.set_bit-2.ensures.0,
+  region_tally _ _ _ c.requires.2 _ _ c.requires.1 c.requires.0 _ (omega (arith, c.if-at-lt-PLAN_MASKS.false)) _ c.set_bit-2.ensures.0,
+)

@@ -1,11 +1,5 @@
-use Prim.Native.Nat.{◌≤◌, ◌-◌}
-use mathlib.Core.Path.{◌≡◌}
 use borrow.Author.Rules.{rules}
-use lib.ListN.{length, take}
-use Rattle.finite.specs.Lists.{tabulate}
 use Rattle.finite.proofs.Lists.{tabulate_none, tabulate_done}
-use Rattle.plan.specs.Limits.{max_accesses}
-use Rattle.plan.specs.Layout.{access_at}
 use Rattle.transfers.proofs.Rows.{row_fits, row_more}
 use Rattle.transfers.proofs.row_of.Goals as goal
 

@@ -1,10 +1,4 @@
-use Prim.Native.Nat.{◌≤◌, ◌-◌}
-use mathlib.Core.Path.{◌≡◌}
-use mathlib.Core.List.{◌++◌}
 use borrow.Author.Rules.{rules}
-use lib.ListN.{length}
-use Rattle.plan.specs.Limits.{max_regions}
-use Rattle.transfers.specs.Search.{noted, marked, flags_of, Tallied}
 use Rattle.transfers.proofs.Last.{noted_none, noted_more, noted_done}
 use Rattle.transfers.proofs.Marks.{source_below, marked_none, marked_more, marked_done}
 use Rattle.transfers.proofs.visit_row.Goals as goal

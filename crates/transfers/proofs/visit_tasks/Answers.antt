@@ -1,10 +1,4 @@
-use Prim.Native.Nat.{◌≤◌, ◌-◌}
-use mathlib.Core.Path.{◌≡◌}
-use mathlib.Core.List.{◌++◌}
 use borrow.Author.Rules.{rules}
-use lib.ListN.{length}
-use Rattle.plan.specs.Limits.{max_regions}
-use Rattle.transfers.specs.Search.{noted_tasks, marked_tasks, flags_of, Tallied}
 use Rattle.transfers.proofs.Rows.{ready}
 use Rattle.transfers.proofs.Last.{noted_tasks_none, noted_tasks_more, noted_tasks_done, sources_noted}
 use Rattle.transfers.proofs.Marks.{marked_tasks_none, marked_tasks_more, marked_tasks_done}

@@ -1,9 +1,5 @@
-use Rattle.std.proofs.Common.{◌≡◌, ◌-◌, ◌≤◌, eqb, rules}
-use Rattle.finite.specs.Below.{all_below}
+use Rattle.std.proofs.Common.{rules}
 use Rattle.finite.proofs.Below.{all_done}
-use Rattle.plan.specs.Limits.{max_regions}
-use Rattle.plan.specs.Layout.{regions_of}
-use Rattle.form.specs.Scan.{behind_ok}
 use Rattle.form.proofs.Rest.{behind_none, behind_more}
 use Rattle.form.proofs.words.behind_regions.Goals as goal
 

@@ -1,10 +1,8 @@
-use Rattle.std.proofs.Common.{◌≡◌, ◌-◌, ◌≤◌, eqb, rules}
+use Rattle.std.proofs.Common.{◌≡◌, ◌-◌, ◌≤◌, eqb}
 use Rattle.finite.specs.Below.{all_below}
-use Rattle.finite.proofs.Below.{all_done}
 use Rattle.plan.specs.Limits.{max_regions}
 use Rattle.plan.specs.Layout.{regions_of}
 use Rattle.form.specs.Scan.{behind_ok}
-use Rattle.form.proofs.Rest.{behind_none, behind_more}
 use Rattle.form.proofs.words.behind_regions.Given as goal
 
 abbrev pub invariant-loop-g : goal.invariant-loop-g

@@ -1,10 +1,8 @@
-use Rattle.std.proofs.Common.{◌≡◌, ◌-◌, ◌*◌, ◌≤◌, eqb, rules}
+use Rattle.std.proofs.Common.{◌≡◌, ◌-◌, ◌*◌, ◌≤◌, eqb}
 use Rattle.finite.specs.Below.{all_below}
-use Rattle.finite.proofs.Below.{all_none, all_done}
 use Rattle.plan.specs.Limits.{max_tasks}
 use Rattle.plan.specs.Layout.{tasks_of, rank_index}
 use Rattle.form.specs.Scan.{pair_ok}
-use Rattle.form.proofs.Rest.{pair_more}
 use Rattle.form.proofs.words.behind_tasks.Given as goal
 
 abbrev pub invariant-loop-k : goal.invariant-loop-k

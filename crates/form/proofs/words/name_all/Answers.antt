@@ -1,6 +1,5 @@
-use Rattle.std.proofs.Common.{◌≡◌, ◌+◌, ◌-◌, ◌*◌, ◌≤◌, ⊎_elim, arith, rules}
-use Rattle.plan.specs.Layout.{rank_of, accesses_of}
-use Rattle.form.proofs.Naming.{Naming, naming_none, naming_wide, naming_twice, naming_same, naming_other, naming_done}
+use Rattle.std.proofs.Common.{arith, rules}
+use Rattle.form.proofs.Naming.{naming_none, naming_wide, naming_twice, naming_same, naming_other, naming_done}
 use Rattle.form.proofs.words.name_all.Goals as goal
 use Rattle.form.proofs.words.name_all.Goals.{then-since-own+else-since-own-2, else-since-own}
 
@@ -19,17 +18,16 @@ pub returns : goal.returns
 returns c = naming_done _ _ _ _ _ c.loop-a.invariant.5 (search rules) (search rules)
 
 pub loop-a-preserved : goal.loop-a-preserved
-loop-a-preserved c =
-    (
-      search rules,
-      search rules,
-      search rules,
-      search rules,
-      elim c.if-since-own.branch [ then-since-own+else-since-own-2 w ↦ omega arith | else-since-own w ↦ omega arith ],
-      elim c.if-since-own.branch [
-        then-since-own+else-since-own-2 w ↦
+loop-a-preserved c = (
+  search rules,
+  search rules,
+  search rules,
+  search rules,
+  elim c.if-since-own.branch [ then-since-own+else-since-own-2 w ↦ omega arith | else-since-own w ↦ omega arith ],
+  elim c.if-since-own.branch [
+    | then-since-own+else-since-own-2 w ↦
         naming_other _ _ _ _ _ _ _ _ _ _ c.requires c.loop-a.invariant.5 c.access_at-word.ensures c.access_region-g.ensures.0
         c.loop-a.invariant.2 c.wrapping_sub_u64-since.ensures.value (search rules) _ (search rules) w.if-since-own.true w.if-since-own-2.false w.changes-is
-      | else-since-own w ↦ search (rules, naming_same)
-      ],
-    )
+    | else-since-own w ↦ search (rules, naming_same)
+  ],
+)

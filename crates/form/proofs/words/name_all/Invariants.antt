@@ -1,6 +1,6 @@
-use Rattle.std.proofs.Common.{◌≡◌, ◌+◌, ◌-◌, ◌*◌, ◌≤◌, ⊎_elim, arith, rules}
+use Rattle.std.proofs.Common.{◌≡◌, ◌+◌, ◌-◌, ◌*◌, ◌≤◌}
 use Rattle.plan.specs.Layout.{rank_of, accesses_of}
-use Rattle.form.proofs.Naming.{Naming, naming_none, naming_wide, naming_twice, naming_same, naming_other, naming_done}
+use Rattle.form.proofs.Naming.{Naming}
 use Rattle.form.proofs.words.name_all.Given as goal
 
 abbrev pub invariant-loop-a : goal.invariant-loop-a

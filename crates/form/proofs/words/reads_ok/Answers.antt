@@ -1,4 +1,4 @@
-use Rattle.std.proofs.Common.{sym, ap, ◌∙◌, ap₂, rules}
+use Rattle.std.proofs.Common.{sym, ap, ◌∙◌, ap₂}
 use Rattle.kernels.specs.Kernels.{kernel_by, suits}
 use Rattle.form.specs.Scan.{takes_any}
 use Rattle.form.proofs.Scanning.{suits_any}

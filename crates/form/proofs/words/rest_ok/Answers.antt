@@ -1,8 +1,5 @@
-use Rattle.std.proofs.Common.{◌≡◌, ◌-◌, ◌≤◌, true, rules}
-use Rattle.finite.specs.Below.{all_below}
-use Rattle.plan.specs.Limits.{max_accesses}
-use Rattle.plan.specs.Layout.{accesses_of}
-use Rattle.form.proofs.Rest.{rest_at, rest_none, rest_more, rest_not, rest_done}
+use Rattle.std.proofs.Common.{rules}
+use Rattle.form.proofs.Rest.{rest_none, rest_more, rest_not, rest_done}
 use Rattle.form.proofs.words.rest_ok.Goals as goal
 
 pub loop-a-init : goal.loop-a-init

@@ -1,8 +1,8 @@
-use Rattle.std.proofs.Common.{◌≡◌, ◌-◌, ◌≤◌, true, rules}
+use Rattle.std.proofs.Common.{◌≡◌, ◌-◌, ◌≤◌, true}
 use Rattle.finite.specs.Below.{all_below}
 use Rattle.plan.specs.Limits.{max_accesses}
 use Rattle.plan.specs.Layout.{accesses_of}
-use Rattle.form.proofs.Rest.{rest_at, rest_none, rest_more, rest_not, rest_done}
+use Rattle.form.proofs.Rest.{rest_at}
 use Rattle.form.proofs.words.rest_ok.Given as goal
 
 abbrev pub invariant-loop-a : goal.invariant-loop-a

@@ -1,6 +1,5 @@
-use Rattle.std.proofs.Common.{◌≡◌, ◌-◌, ◌≤◌, arith, rules}
-use Rattle.plan.specs.Layout.{tasks_of}
-use Rattle.form.proofs.Scanning.{Scanning, task_few, scanning_none, scanning_more, scanning_not, scanning_done}
+use Rattle.std.proofs.Common.{arith, rules}
+use Rattle.form.proofs.Scanning.{task_few, scanning_none, scanning_more, scanning_not, scanning_done}
 use Rattle.form.proofs.words.scan_tasks.Goals as goal
 
 pub loop-i-init : goal.loop-i-init

@@ -1,6 +1,6 @@
-use Rattle.std.proofs.Common.{◌≡◌, ◌-◌, ◌≤◌, arith, rules}
+use Rattle.std.proofs.Common.{◌≡◌, ◌-◌, ◌≤◌}
 use Rattle.plan.specs.Layout.{tasks_of}
-use Rattle.form.proofs.Scanning.{Scanning, task_few, scanning_none, scanning_more, scanning_not, scanning_done}
+use Rattle.form.proofs.Scanning.{Scanning}
 use Rattle.form.proofs.words.scan_tasks.Given as goal
 
 abbrev pub invariant-loop-i : goal.invariant-loop-i

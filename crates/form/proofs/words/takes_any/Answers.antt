@@ -1,4 +1,4 @@
-use Rattle.std.proofs.Common.{◌≡◌, sym, ap, ◌∙◌, rules}
+use Rattle.std.proofs.Common.{◌≡◌, sym, ap, ◌∙◌}
 use Rattle.kernels.specs.declared.Permitted.{Permitted}
 use Rattle.kernels.specs.declared.Kernel.TheVariants.{Known}
 use Rattle.kernels.specs.Kernels.{kernel_by}

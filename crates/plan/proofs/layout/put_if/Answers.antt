@@ -1,4 +1,3 @@
-use Rattle.std.proofs.Common.{rules}
 use Rattle.plan.proofs.layout.put_if.Goals as goal
 
 pub returns-then-yes : goal.returns-then-yes

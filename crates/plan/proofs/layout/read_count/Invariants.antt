@@ -1,7 +1,6 @@
-use Rattle.std.proofs.Common.{◌≡◌, ◌-◌, ◌≤◌, ap, ◌∙◌, rules}
+use Rattle.std.proofs.Common.{◌≡◌, ◌-◌, ◌≤◌}
 use Rattle.finite.specs.Below.{count_below}
-use Rattle.finite.proofs.Below.{count_none, count_more, count_done}
-use Rattle.plan.specs.Layout.{accesses_of, reads, is_read}
+use Rattle.plan.specs.Layout.{accesses_of, is_read}
 use Rattle.plan.proofs.layout.read_count.Given as goal
 
 abbrev pub invariant-loop-a : goal.invariant-loop-a

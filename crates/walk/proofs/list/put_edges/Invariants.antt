@@ -1,11 +1,8 @@
 use Prim.Native.Nat.{◌-◌, ◌≤◌}
-use borrow.Author.Rules.{rules}
 use Rattle.finite.specs.Lists.{collect}
 use Rattle.finite.specs.Put.{Added}
-use Rattle.finite.proofs.Puts.{added_put, collect_none, collect_more, collect_done}
 use Rattle.plan.specs.Layout.{body_of}
 use Rattle.walk.specs.Listing.{numbers_from}
-use Rattle.walk.proofs.Listing.{numbers_room, numbers_fit}
 use Rattle.walk.proofs.list.put_edges.Given as goal
 
 abbrev pub invariant-loop-a : goal.invariant-loop-a

@@ -1,10 +1,5 @@
-use Prim.Native.Nat.{◌-◌, ◌≤◌}
-use mathlib.Core.Logic.{⊎_elim}
 use borrow.Author.Rules.{rules}
-use Rattle.finite.specs.Lists.{collect}
-use Rattle.finite.specs.Put.{Added}
 use Rattle.finite.proofs.Puts.{collect_none}
-use Rattle.walk.specs.Listing.{entry_of}
 use Rattle.walk.proofs.Listing.{row_fits, row_more, row_other, row_done}
 use Rattle.walk.proofs.list.put_row.Goals as goal
 use Rattle.walk.proofs.list.put_row.Goals.{then-marks-b-eq1, else-marks-b-eq1}
@@ -19,11 +14,10 @@ pub returns : goal.returns
 returns c = search (rules, row_done)
 
 pub loop-b-preserved : goal.loop-b-preserved
-loop-b-preserved c =
-    (
-      search rules,
-      elim c.if-marks-b-eq1.branch [
-        then-marks-b-eq1 w ↦ rw (w.edges-is, w.end-is) (search (rules, row_more))
-      | else-marks-b-eq1 w ↦ rw (w.edges-is, w.end-is) (search (rules, row_other))
-      ],
-    )
+loop-b-preserved c = (
+  search rules,
+  elim c.if-marks-b-eq1.branch [
+    | then-marks-b-eq1 w ↦ rw (w.edges-is, w.end-is) (search (rules, row_more))
+    | else-marks-b-eq1 w ↦ rw (w.edges-is, w.end-is) (search (rules, row_other))
+  ],
+)

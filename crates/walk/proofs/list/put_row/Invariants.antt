@@ -1,11 +1,7 @@
 use Prim.Native.Nat.{◌-◌, ◌≤◌}
-use mathlib.Core.Logic.{⊎_elim}
-use borrow.Author.Rules.{rules}
 use Rattle.finite.specs.Lists.{collect}
 use Rattle.finite.specs.Put.{Added}
-use Rattle.finite.proofs.Puts.{collect_none}
 use Rattle.walk.specs.Listing.{entry_of}
-use Rattle.walk.proofs.Listing.{row_fits, row_more, row_other, row_done}
 use Rattle.walk.proofs.list.put_row.Given as goal
 
 abbrev pub invariant-loop-b : goal.invariant-loop-b

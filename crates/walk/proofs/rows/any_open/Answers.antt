@@ -1,12 +1,5 @@
-use Prim.Native.Nat.{◌-◌, ◌≤◌}
-use mathlib.Core.Path.{◌≡◌}
-use mathlib.Core.Bool.{not}
 use borrow.Author.Rules.{rules}
-use lib.Dec.{eqb}
-use lib.ListN.{get_or}
-use Rattle.finite.specs.Below.{any_below}
 use Rattle.finite.proofs.Below.{any_none, any_more, any_done}
-use Rattle.plan.specs.Limits.{max_regions}
 use Rattle.walk.specs.Rows.{any_open}
 use Rattle.walk.proofs.rows.any_open.Goals as goal
 

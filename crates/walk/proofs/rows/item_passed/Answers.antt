@@ -1,4 +1,3 @@
-use borrow.Author.Rules.{rules}
 use Rattle.walk.proofs.rows.item_passed.Goals as goal
 
 pub returns-then-back : goal.returns-then-back

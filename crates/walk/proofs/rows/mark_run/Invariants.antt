@@ -1,14 +1,10 @@
-use Prim.Native.Nat.{◌-◌, ◌≤◌, ◌<◌}
-use mathlib.Core.Path.{◌≡◌, sym, ◌∙◌}
+use Prim.Native.Nat.{◌-◌, ◌≤◌}
+use mathlib.Core.Path.{◌≡◌}
 use mathlib.Core.Bool.{false}
-use native.Mathlib.Omega.{arith}
-use borrow.Author.Rules.{rules}
 use Rattle.edges.specs.Touch.{touch_on}
-use Rattle.edges.proofs.Touches.{touch_most}
 use Rattle.plan.specs.Layout.{body_of}
 use Rattle.walk.specs.Rows.{Places, Shut, Passes}
-use Rattle.walk.proofs.Meeting.{meets_places}
-use Rattle.walk.proofs.Runs.{first_of, passed_below, run_none, run_more, run_ended, goes_on, shut_all, shut_after}
+use Rattle.walk.proofs.Runs.{first_of}
 use Rattle.walk.proofs.rows.mark_run.Given as goal
 
 abbrev pub invariant-loop-k : goal.invariant-loop-k

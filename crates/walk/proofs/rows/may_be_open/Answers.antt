@@ -1,4 +1,3 @@
-use borrow.Author.Rules.{rules}
 use Rattle.walk.proofs.rows.may_be_open.Goals as goal
 
 pub returns-then-not-hit : goal.returns-then-not-hit

@@ -1,9 +1,6 @@
 use Prim.Native.Nat.{◌-◌}
-use borrow.Author.Rules.{rules}
 use Rattle.graph.proofs.Accesses.{Passed, touch_to}
 use Rattle.walk.specs.Rows.{Places, Meets}
-use Rattle.walk.proofs.Meeting.{meets_places}
-use Rattle.walk.proofs.TaskTouch.{task_none, task_more, task_done}
 use Rattle.walk.proofs.rows.meet_task.Given as goal
 
 abbrev pub invariant-loop-a : goal.invariant-loop-a

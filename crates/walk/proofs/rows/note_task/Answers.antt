@@ -1,7 +1,4 @@
-use Prim.Native.Nat.{◌-◌}
 use borrow.Author.Rules.{rules}
-use Rattle.graph.proofs.Accesses.{Passed, touch_to}
-use Rattle.walk.specs.Rows.{Touches}
 use Rattle.walk.proofs.TaskTouch.{noted_none, noted_more, noted_done}
 use Rattle.walk.proofs.rows.note_task.Goals as goal
 

@@ -1,4 +1,3 @@
-use borrow.Author.Rules.{rules}
 use Rattle.walk.proofs.rows.put_if.Goals as goal
 
 pub returns-then-yes : goal.returns-then-yes
