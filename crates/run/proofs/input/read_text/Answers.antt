@@ -14,6 +14,9 @@ read_behind f n xs ys rest within fits =
 
 pub loop-done-preserved : goal.loop-done-preserved
 loop-done-preserved g c =
-    let read = c.in-Ok.ensures in
-    (search rules, search rules, subst (Consumes _ _) (sym (read_behind c.loop-done.done c.in-Ok.bytes c.loop-done.text c.read.new.buf _ (search rules) read.bound.0))
-    (Consumes-trans _ _ _ _ _ c.loop-done.invariant.2 read.bytes.0))
+    let read = c.in-Ok.ensures in (
+      search rules,
+      search rules,
+      subst (Consumes _ _) (sym (read_behind c.loop-done.done c.in-Ok.bytes c.loop-done.text c.read.new.buf _ (search rules) read.bound.0))
+          (Consumes-trans _ _ _ _ _ c.loop-done.invariant.2 read.bytes.0),
+    )
