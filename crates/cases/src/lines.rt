@@ -5,7 +5,9 @@ use crate::lent::{
 use crate::numbers::{
     ahead, behind, byte_at, fill, next_field, number_at, set_byte, set_count, set_word, word_at,
 };
+use itoa::Buffer;
 use plan::state::Count;
+use std::io;
 
 // The byte of a plan text that a byte of the script stands for.
 fn text_byte(byte: u8) -> u8 {
@@ -32,9 +34,8 @@ fn put_digits(text: &mut [u8], at: usize, digits: &[u8]) -> usize {
 }
 
 fn put_number(text: &mut [u8], at: usize, n: u64) -> usize {
-    let mut digits = [0u8; 20];
-    let k = io::decimal(n, &mut digits);
-    put_digits(text, at, &digits[..k])
+    let mut digits = Buffer::new();
+    put_digits(text, at, digits.format(n).as_bytes())
 }
 
 fn put_byte(text: &mut [u8], at: usize, byte: u8) -> usize {
@@ -46,7 +47,7 @@ fn put_byte(text: &mut [u8], at: usize, byte: u8) -> usize {
 fn put_glyph(text: &mut [u8], at: usize, byte: u8, turn: u64) -> usize {
     match byte {
         b'#' => put_number(text, at, turn),
-        b'$' => put_number(text, at, std::num::wrapping_add_u64(turn, 1)),
+        b'$' => put_number(text, at, turn.wrapping_add(1)),
         _ => put_byte(text, at, byte),
     }
 }
@@ -97,20 +98,20 @@ fn put_text(text: &mut [u8], room: &mut [u64], script: &[u8], at: usize) {
     set_word(room, TEXT_END, to as u64);
 }
 
-fn print_line(script: &[u8], at: usize) {
+fn print_line(rt: &impl Print, script: &[u8], at: usize) -> io::Result<()> {
     let end = behind(ahead(script, at, b'\n'), 1);
     if end > script.len() {
-        return;
+        return Ok(());
     }
     if at > end {
-        return;
+        return Ok(());
     }
-    print(&script[at..end]);
+    print(rt, &script[at..end])
 }
 
 // Whether a line begins at `at`.
 fn begins(script: &[u8], at: usize) -> bool {
-    (at == 0) | (byte_at(script, std::num::wrapping_sub_usize(at, 1)) == b'\n')
+    (at == 0) | (byte_at(script, at.wrapping_sub(1)) == b'\n')
 }
 
 // The numbers from the first of a line on. A line that has fewer than three does not use those of
@@ -141,53 +142,59 @@ fn lend(room: &mut [u64], fields: Fields) {
 
 // A line that changes or shows something lent, or makes a call.
 fn play_numbers(
+    rt: &impl Print,
     letter: u8,
     room: &mut [u64],
     counts: &mut [Count],
     values: &mut [u64],
     fields: Fields,
-) {
+) -> io::Result<()> {
     match letter {
         b'l' => lend(room, fields),
         b'w' => set_word(room, fields.first as usize, fields.second),
         b'j' => fill(room, LENT_PLAN, fields.first),
-        b'a' => print_word(room, fields.first),
+        b'a' => print_word(rt, room, fields.first)?,
         b'c' => set_count(counts, fields.first as usize, fields.second),
-        _ => call_in(letter, room, counts, values, fields.first),
+        _ => call_in(rt, letter, room, counts, values, fields.first)?,
     }
+    Ok(())
 }
 
 // The line at `at`, where one begins there.
 fn play_line(
+    rt: &impl Print,
     script: &[u8],
     text: &mut [u8],
     room: &mut [u64],
     counts: &mut [Count],
     values: &mut [u64],
     at: usize,
-) {
+) -> io::Result<()> {
     if !begins(script, at) {
-        return;
+        return Ok(());
     }
     let letter = byte_at(script, at);
     match letter {
-        b'#' => print_line(script, at),
+        b'#' => print_line(rt, script, at)?,
         b't' => put_text(text, room, script, at),
-        b'p' => read_plan(text, room),
+        b'p' => read_plan(rt, text, room)?,
         b'\n' => {}
-        _ => play_numbers(letter, room, counts, values, fields_of(script, at)),
+        _ => play_numbers(rt, letter, room, counts, values, fields_of(script, at))?,
     }
+    Ok(())
 }
 
 // Plays all lines.
 pub(crate) fn play(
+    rt: &impl Print,
     script: &[u8],
     text: &mut [u8],
     room: &mut [u64],
     counts: &mut [Count],
     values: &mut [u64],
-) {
+) -> io::Result<()> {
     for at in 0..script.len() {
-        play_line(script, text, room, counts, values, at);
+        play_line(rt, script, text, room, counts, values, at)?;
     }
+    Ok(())
 }

@@ -15,19 +15,47 @@
 // is one more.
 #![tactic(auto)]
 
+ghost use Rattle.std.specs.Prelude.{◌≤◌, length};
+
 mod lent;
 mod lines;
 mod numbers;
 
 use crate::lines::play;
 use plan::state::{COUNTS, VALUES};
+use std::io;
+use std::io::Read;
 
-fn main() {
-    let mut script = io::large_buffer();
-    let n = io::read_full(libc::STDIN_FILENO, &mut script);
+// Reads until `script` is full, the input ends or a read fails, and returns how many bytes were
+// read.
+fn read_script<R: Read>(input: &mut R, script: &mut [u8]) -> usize
+    ensures { result ≤ length script.new }
+{
+    let most = script.len();
+    let mut done = 0;
+    while done < most {
+        let bytes = input.read(&mut script[done..]).unwrap_or(0);
+        if bytes == 0 {
+            break;
+        }
+        done += bytes;
+    }
+    done
+}
+
+fn main(rt: HostRuntime) -> io::Result<()> {
+    let mut script = [0u8; 65536];
+    let n = read_script(&mut rt.stdin(), &mut script);
     let mut text = [0u8; 40000];
     let mut room = [0u64; 1704];
     let mut counts = [0; COUNTS];
     let mut values = [0u64; VALUES];
-    play(&script[..n], &mut text, &mut room, &mut counts, &mut values);
+    play(
+        &rt,
+        &script[..n],
+        &mut text,
+        &mut room,
+        &mut counts,
+        &mut values,
+    )
 }

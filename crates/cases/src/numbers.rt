@@ -32,7 +32,7 @@ pub(crate) fn set_word(room: &mut [u64], at: usize, word: u64) {
 // Word i becomes i + n, for each i below `end`.
 pub(crate) fn fill(room: &mut [u64], end: usize, n: u64) {
     for i in 0..end {
-        set_word(room, i, std::num::wrapping_add_u64(i as u64, n));
+        set_word(room, i, (i as u64).wrapping_add(n));
     }
 }
 
@@ -54,7 +54,7 @@ pub(crate) fn set_count(counts: &mut [Count], at: usize, count: Count) {
 }
 
 pub(crate) fn behind(a: usize, b: usize) -> usize {
-    std::num::wrapping_add_usize(a, b)
+    a.wrapping_add(b)
 }
 
 // Where the first `stop` stands from `at` on, or the text's end.
@@ -78,7 +78,7 @@ fn is_digit(byte: u8) -> bool {
 
 // A number with one more digit.
 fn with_digit(n: u64, byte: u8) -> u64 {
-    std::num::wrapping_add_u64(n % 1844674407370955162 * 10, (byte % 48) as u64)
+    (n % 1844674407370955162 * 10).wrapping_add((byte % 48) as u64)
 }
 
 // The number that the digits from `at` on write.

@@ -9,16 +9,16 @@ use input::read_text;
 use plan::numbers::as_index;
 use report::REPORT_BYTES;
 
-fn main() {
+fn main(rt: HostRuntime) {
     // longer than a text may be, so that of a longer input enough is read to see it
-    let mut text = io::large_buffer();
+    let mut text = [0u8; 65536];
     let mut out = [0u8; REPORT_BYTES];
-    let got = read_text(&mut text);
+    let got = read_text(&mut rt.stdin(), &mut text);
     let n = got.bytes;
     if !got.whole {
-        io::write_all(libc::STDERR_FILENO, b"run: standard input cannot be read\n");
+        let _ = eprintln!(rt; "run: standard input cannot be read");
         return;
     }
     let answer = report::report(&text[..n], &mut out);
-    io::write_all(libc::STDOUT_FILENO, &out[..as_index(answer.number)]);
+    let _ = rt.stdout().write_all(&out[..as_index(answer.number)]);
 }
