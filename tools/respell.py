@@ -19,6 +19,8 @@ WORD = r"[^\s(){}\[\].,;:]+"
 MARKS = r"(?:(?:abbrev|unfoldable|opaque|pub|record|data|ruleset)\s+)*"
 DEFINED = re.compile(rf"^\s*{MARKS}({WORD})\s*(?:\{{[^}}]*\}}\s*|\([^)]*\)\s*)*:\s")
 NAMED = re.compile(rf"^\s*(?:pub\s+)?(?:record|data|abbrev|unfoldable)\s+(?:pub\s+)?({WORD})")
+# a name that a file gives to what it imports
+ALIAS = re.compile(r" as ([a-z]+[A-Z][A-Za-z]*)(?=[,}])")
 
 # lemmas whose name port.py wrote as a definition's is written now
 LEMMAS = ["bits_below", "edge_test", "item_ok", "ready_at", "start_fits"]
@@ -59,6 +61,7 @@ def renamed():
             for found in (DEFINED.match(line), NAMED.match(line)):
                 if found:
                     own.add(found.group(1))
+            own.update(ALIAS.findall(line))
     new = {}
     alike = collections.defaultdict(set)
     for name in own:

@@ -6,7 +6,7 @@ use Rattle.text.specs.declared.Mode.{Mode}
 use Rattle.text.specs.declared.Record.{Record}
 use Rattle.text.specs.declared.Record.TheVariants.{Loop, Begin, End, Unreadable}
 use Rattle.text.specs.Ascii.{ascii}
-use Rattle.text.specs.Digits.{digits}
+pub use Rattle.text.specs.Digits.{decimal, digits}
 use Rattle.reading.specs.Plan.{Access, Plan, Start, Task, plan_of}
 
 -- the line of a record, without its line feed; a record that is none has an empty line

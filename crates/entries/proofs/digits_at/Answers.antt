@@ -1,5 +1,4 @@
-use Rattle.std.proofs.Common.{◌+◌, ◌-◌, ◌<◌, ◌≤◌, get_or, ◌∙◌, arith, rules}
-use Rattle.entries.specs.Scan.{Read}
+use Rattle.std.proofs.Common.{◌+◌, ◌<◌, get_or, ◌∙◌, arith, rules}
 use Rattle.entries.proofs.Heads.{digit_here, digit_end, wrapped_digit, wrapped_other}
 use Rattle.entries.proofs.Runs.{read_none, read_next, read_fits}
 use Rattle.entries.proofs.digits_at.Goals as goal

@@ -1,7 +1,5 @@
-use Rattle.std.proofs.Common.{◌+◌, ◌-◌, ◌<◌, ◌≤◌, get_or, ◌∙◌, arith, rules}
+use Rattle.std.proofs.Common.{◌+◌, ◌-◌, ◌≤◌}
 use Rattle.entries.specs.Scan.{Read}
-use Rattle.entries.proofs.Heads.{digit_here, digit_end, wrapped_digit, wrapped_other}
-use Rattle.entries.proofs.Runs.{read_none, read_next, read_fits}
 use Rattle.entries.proofs.digits_at.Given as goal
 
 abbrev pub invariant-loop-size : goal.invariant-loop-size

@@ -1,4 +1,4 @@
-use Rattle.std.proofs.Common.{sym, ◌∙◌, arith, length-take-le, rules}
+use Rattle.std.proofs.Common.{sym, ◌∙◌, arith, length-take-le}
 use Rattle.entries.specs.Scan.{start_word, finish_word}
 use Rattle.entries.proofs.Steps.{too_short, word_begins, wordless}
 use Rattle.entries.proofs.entry_of.Goals as goal

@@ -1,4 +1,4 @@
-use Rattle.std.proofs.Common.{sym, ◌∙◌, arith, rules}
+use Rattle.std.proofs.Common.{sym, ◌∙◌, arith}
 use borrow.Author.Tests.{not-true, not-false}
 use Rattle.entries.proofs.Heads.{is_true}
 use Rattle.entries.proofs.Numbers.{field_bad, field_other, field_good}

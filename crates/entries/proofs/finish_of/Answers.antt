@@ -1,4 +1,3 @@
-use Rattle.std.proofs.Common.{rules}
 use borrow.Author.Tests.{not-true, not-false}
 use Rattle.entries.proofs.Steps.{finish_no_item, finish_said}
 use Rattle.entries.proofs.finish_of.Goals as goal

@@ -1,4 +1,3 @@
-use Rattle.std.proofs.Common.{rules}
 use borrow.Author.Tests.{not-true, not-false}
 use Rattle.entries.proofs.Numbers.{last_bad, last_other, last_good}
 use Rattle.entries.proofs.last_at.Goals as goal

@@ -1,4 +1,4 @@
-use Rattle.std.proofs.Common.{◌≡◌, true, get_or, drop, sym, ◌∙◌, rules}
+use Rattle.std.proofs.Common.{◌≡◌, true, get_or, drop, sym, ◌∙◌}
 use borrow.Author.Tests.{not-true, not-false}
 use Rattle.entries.specs.Scan.{head_digit}
 use Rattle.entries.proofs.Heads.{digit_true}

@@ -1,4 +1,4 @@
-use Rattle.std.proofs.Common.{arith, rules, ne_eqb}
+use Rattle.std.proofs.Common.{arith, ne_eqb}
 use Rattle.entries.proofs.Numbers.{run_none, run_one, run_zero, run_short, run_long}
 use Rattle.entries.proofs.number_at.Goals as goal
 

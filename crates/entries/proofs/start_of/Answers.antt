@@ -1,4 +1,3 @@
-use Rattle.std.proofs.Common.{rules}
 use borrow.Author.Tests.{not-true, not-false}
 use Rattle.entries.proofs.Steps.{start_no_item, start_no_word, start_said}
 use Rattle.entries.proofs.start_of.Goals as goal

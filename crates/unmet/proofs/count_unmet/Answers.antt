@@ -1,12 +1,8 @@
-use Prim.Native.Nat.{◌+◌, ◌-◌, ◌≤◌}
-use mathlib.Core.Path.{◌≡◌, sym, ap}
+use Prim.Native.Nat.{◌+◌, ◌-◌}
+use mathlib.Core.Path.{sym, ap}
 use native.Mathlib.Omega.{arith}
 use borrow.Author.Rules.{rules}
-use Rattle.finite.specs.Below.{count_below}
 use Rattle.finite.proofs.Below.{count_none}
-use Rattle.body.specs.Places.{system}
-use Rattle.edges.specs.Tests.{edge_test}
-use Rattle.waits.specs.Waits.{is_unmet}
 use Rattle.waits.proofs.Unmet.{count_done}
 use Rattle.plan.specs.Layout.{body_of}
 use Rattle.graph.proofs.Lookup.{passes_most, codes_few, own_passes_lem, body_fits}

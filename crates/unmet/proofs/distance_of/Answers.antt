@@ -1,5 +1,4 @@
 use mathlib.Core.Path.{◌∙◌}
-use borrow.Author.Rules.{rules}
 use Rattle.unmet.proofs.Marking.{distance_by}
 use Rattle.unmet.proofs.distance_of.Goals as goal
 

@@ -1,5 +1,4 @@
 use borrow.Author.Tests.{eq-eqb, ne_eqb}
-use borrow.Author.Rules.{rules}
 use Rattle.unmet.proofs.lower_number.Goals as goal
 
 pub returns-then-mark-ne1 : goal.returns-then-mark-ne1

@@ -1,13 +1,8 @@
-use Prim.Native.Nat.{◌+◌, ◌-◌, ◌≤◌}
-use mathlib.Core.Path.{◌≡◌, ap}
+use Prim.Native.Nat.{◌+◌}
+use mathlib.Core.Path.{ap}
 use native.Mathlib.Omega.{arith}
 use borrow.Author.Rules.{rules}
-use lib.ListN.{length}
-use Rattle.body.specs.Places.{system}
-use Rattle.edges.specs.Tests.{edge_test}
-use Rattle.waits.specs.Stored.{lowered_to}
 use Rattle.waits.proofs.Stored.{lower_none, lower_done}
-use Rattle.plan.specs.Sizes.{first_unmet}
 use Rattle.plan.specs.Layout.{body_of}
 use Rattle.graph.proofs.Lookup.{passes_most, codes_few, own_passes_lem}
 use Rattle.steps.specs.State.{done_by}
