@@ -1,5 +1,4 @@
 use mathlib.Core.Path.{ap}
-use borrow.Author.Rules.{rules}
 use Rattle.entries.specs.Said.{said}
 use Rattle.checker.proofs.Trying.{line_tried, line_unread}
 use Rattle.checker.proofs.check_entry.Goals as goal

@@ -1,5 +1,5 @@
-use Prim.Native.Nat.{◌+◌, ◌-◌, ◌≤◌}
-use mathlib.Core.Path.{◌≡◌, refl, sym, ◌∙◌}
+use Prim.Native.Nat.{◌+◌, ◌≤◌}
+use mathlib.Core.Path.{refl, sym, ◌∙◌}
 use native.Mathlib.Omega.{arith}
 use borrow.Author.Rules.{rules}
 use lib.ListN.{length}
@@ -7,7 +7,7 @@ use lib.Seq.{length-take-le}
 use Rattle.text.proofs.LineLaws.{line_found}
 use Rattle.graph.proofs.Lookup.{codes_few}
 use Rattle.steps.specs.Calls.{lent}
-use Rattle.checker.proofs.Lining.{Reached, lines_unended, lines_stop, lines_more, lines_done}
+use Rattle.checker.proofs.Lining.{lines_unended, lines_stop, lines_more, lines_done}
 use Rattle.checker.proofs.check_lines.Goals as goal
 use Rattle.checker.proofs.check_lines.Goals.{Else-size-eq0}
 

@@ -1,13 +1,8 @@
-use Prim.Native.Nat.{◌+◌, ◌-◌, ◌≤◌}
-use mathlib.Core.Path.{◌≡◌, refl, sym, ◌∙◌}
-use native.Mathlib.Omega.{arith}
-use borrow.Author.Rules.{rules}
+use Prim.Native.Nat.{◌-◌, ◌≤◌}
+use mathlib.Core.Path.{◌≡◌}
 use lib.ListN.{length}
-use lib.Seq.{length-take-le}
-use Rattle.text.proofs.LineLaws.{line_found}
-use Rattle.graph.proofs.Lookup.{codes_few}
 use Rattle.steps.specs.Calls.{lent}
-use Rattle.checker.proofs.Lining.{Reached, lines_unended, lines_stop, lines_more, lines_done}
+use Rattle.checker.proofs.Lining.{Reached}
 use Rattle.checker.proofs.check_lines.Given as goal
 
 abbrev pub invariant-loop-at : goal.invariant-loop-at

@@ -1,5 +1,4 @@
 use mathlib.Core.Path.{refl}
-use borrow.Author.Rules.{rules}
 use Rattle.engine.specs.Usable.{Startable}
 use Rattle.checker.proofs.Stepping.{startable}
 use Rattle.checker.proofs.Trying.{start_barred, start_differs, start_holds}

@@ -1,11 +1,8 @@
 use Prim.Native.Nat.{◌-◌, ◌≤◌}
-use borrow.Author.Rules.{rules}
 use Rattle.finite.specs.Lists.{collect}
 use Rattle.finite.specs.Put.{Added}
-use Rattle.finite.proofs.Puts.{collect_none, collect_more, collect_done}
 use Rattle.plan.specs.Limits.{max_accesses}
 use Rattle.items.specs.Codes.{access_codes}
-use Rattle.items.proofs.Tasks.{accesses_fit}
 use Rattle.items.proofs.put_accesses.Given as goal
 
 abbrev pub invariant-loop-a : goal.invariant-loop-a

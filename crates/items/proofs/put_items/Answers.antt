@@ -1,9 +1,5 @@
-use Prim.Native.Nat.{◌-◌, ◌≤◌}
 use borrow.Author.Rules.{rules}
-use Rattle.finite.specs.Lists.{collect}
-use Rattle.finite.specs.Put.{Added}
 use Rattle.finite.proofs.Puts.{collect_none, collect_more}
-use Rattle.items.specs.Codes.{task_codes}
 use Rattle.items.proofs.Tasks.{task_rank, tasks_fit, tasks_done}
 use Rattle.items.proofs.put_items.Goals as goal
 

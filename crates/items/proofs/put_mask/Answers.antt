@@ -2,8 +2,7 @@ use Prim.Native.Nat.{◌<◌}
 use native.Mathlib.Omega.{arith}
 use borrow.Author.Rules.{rules}
 use Rattle.finite.proofs.Bits.{cleared_less}
-use Rattle.finite.proofs.Puts.{Left, left_all, left_none}
-use Rattle.items.specs.Codes.{mask_codes}
+use Rattle.finite.proofs.Puts.{left_all, left_none}
 use Rattle.items.proofs.Masks.{mask_none, lowest_rank, mask_fits, mask_more}
 use Rattle.items.proofs.put_mask.Goals as goal
 

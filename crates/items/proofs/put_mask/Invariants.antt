@@ -1,10 +1,6 @@
 use Prim.Native.Nat.{◌<◌}
-use native.Mathlib.Omega.{arith}
-use borrow.Author.Rules.{rules}
-use Rattle.finite.proofs.Bits.{cleared_less}
-use Rattle.finite.proofs.Puts.{Left, left_all, left_none}
+use Rattle.finite.proofs.Puts.{Left}
 use Rattle.items.specs.Codes.{mask_codes}
-use Rattle.items.proofs.Masks.{mask_none, lowest_rank, mask_fits, mask_more}
 use Rattle.items.proofs.put_mask.Given as goal
 
 abbrev pub invariant-loop-rest : goal.invariant-loop-rest

@@ -1,13 +1,10 @@
 use Prim.Native.Nat.{◌+◌, ◌-◌, ◌≤◌}
 use mathlib.Core.Path.{◌≡◌}
 use mathlib.Core.Bool.{true}
-use borrow.Author.Rules.{rules}
 use lib.Dec.{ltb}
 use lib.ListN.{get_or}
 use Rattle.finite.specs.Below.{all_below}
-use Rattle.finite.proofs.Below.{all_none, all_done}
 use Rattle.prepared.specs.Tables.{first_target}
-use Rattle.ranges.proofs.Stopping.{below_more, below_stop}
 use Rattle.ranges.proofs.are_items.Given as goal
 
 abbrev pub invariant-loop-k : goal.invariant-loop-k

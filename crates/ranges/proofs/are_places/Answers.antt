@@ -1,9 +1,6 @@
-use Prim.Native.Nat.{◌-◌, ◌≤◌}
-use mathlib.Core.Path.{◌≡◌}
 use mathlib.Core.Bool.{true}
 use borrow.Author.Rules.{rules}
 use lib.Dec.{ltb}
-use Rattle.finite.specs.Below.{all_below}
 use Rattle.finite.proofs.Below.{all_none, all_done}
 use Rattle.plan.specs.Limits.{max_accesses}
 use Rattle.plan.specs.Sizes.{first_held}
@@ -24,11 +21,10 @@ returns-then-index_16-ge-FIRST_HELD c =
     (below_stop (place_in c.args.tables.now c.args.first c.args.a) first_held c.loop-k.k _ c.index_16.ensures c.if-index_16-ge-FIRST_HELD.true _ (search rules))
 
 pub loop-k-preserved : goal.loop-k-preserved
-loop-k-preserved c =
-    (
-      search rules,
-      below_more (place_in c.args.tables.now c.args.first c.args.a) first_held c.loop-k.k _ c.index_16.ensures c.if-index_16-ge-FIRST_HELD.false c.loop-k.invariant.1,
-    )
+loop-k-preserved c = (
+  search rules,
+  below_more (place_in c.args.tables.now c.args.first c.args.a) first_held c.loop-k.k _ c.index_16.ensures c.if-index_16-ge-FIRST_HELD.false c.loop-k.invariant.1,
+)
 
 pub returns : goal.returns
 returns c =

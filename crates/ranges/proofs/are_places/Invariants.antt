@@ -1,14 +1,10 @@
 use Prim.Native.Nat.{◌-◌, ◌≤◌}
 use mathlib.Core.Path.{◌≡◌}
 use mathlib.Core.Bool.{true}
-use borrow.Author.Rules.{rules}
 use lib.Dec.{ltb}
 use Rattle.finite.specs.Below.{all_below}
-use Rattle.finite.proofs.Below.{all_none, all_done}
-use Rattle.plan.specs.Limits.{max_accesses}
 use Rattle.plan.specs.Sizes.{first_held}
 use Rattle.prepared.specs.Tables.{place_in}
-use Rattle.ranges.proofs.Stopping.{below_more, below_stop, list_long, list_all}
 use Rattle.ranges.proofs.are_places.Given as goal
 
 abbrev pub invariant-loop-k : goal.invariant-loop-k

@@ -1,5 +1,4 @@
 use mathlib.Core.Path.{◌∙◌}
-use borrow.Author.Rules.{rules}
 use Rattle.ranges.proofs.Refusing.{targets_crowded, targets_far, targets_many, targets_all}
 use Rattle.ranges.proofs.are_targets.Goals as goal
 

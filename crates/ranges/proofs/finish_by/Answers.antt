@@ -1,4 +1,3 @@
-use borrow.Author.Rules.{rules}
 use Rattle.ranges.proofs.Refusing.{finish_range, finish_idle, finish_running}
 use Rattle.ranges.proofs.finish_by.Goals as goal
 

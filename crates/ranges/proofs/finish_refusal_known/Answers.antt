@@ -1,4 +1,3 @@
-use borrow.Author.Rules.{rules}
 use Rattle.ranges.proofs.Refusing.{known_finish_beyond, known_finish}
 use Rattle.ranges.proofs.finish_refusal_known.Goals as goal
 

@@ -1,4 +1,3 @@
-use borrow.Author.Rules.{rules}
 use Rattle.ranges.specs.Numbers.{item_in}
 use Rattle.ranges.proofs.item_of.Goals as goal
 

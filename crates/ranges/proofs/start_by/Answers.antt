@@ -1,4 +1,3 @@
-use borrow.Author.Rules.{rules}
 use Rattle.ranges.proofs.Refusing.{start_ready, start_range, start_done, start_running, start_unmet}
 use Rattle.ranges.proofs.start_by.Goals as goal
 

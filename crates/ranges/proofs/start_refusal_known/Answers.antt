@@ -1,4 +1,3 @@
-use borrow.Author.Rules.{rules}
 use Rattle.ranges.proofs.Refusing.{known_start_beyond, known_start}
 use Rattle.ranges.proofs.start_refusal_known.Goals as goal
 

@@ -1,4 +1,3 @@
-use borrow.Author.Rules.{rules}
 use Rattle.reader.proofs.is_below.Goals as goal
 
 pub returns-in-Value : goal.returns-in-Value

@@ -1,10 +1,5 @@
-use Prim.Native.Nat.{◌-◌, ◌≤◌}
-use mathlib.Core.Path.{◌≡◌}
 use borrow.Author.Rules.{rules}
-use lib.Dec.{eqb}
-use Rattle.finite.specs.Below.{any_below}
 use Rattle.finite.proofs.Below.{any_done, any_more, any_none}
-use Rattle.plan.specs.Layout.{region_at}
 use Rattle.reader.proofs.is_named.Goals as goal
 
 pub loop-a-init : goal.loop-a-init

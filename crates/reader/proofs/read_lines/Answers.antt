@@ -1,4 +1,4 @@
-use Rattle.std.proofs.Common.{◌≡◌, ◌<◌, List, length, nat_lt, true, false, sym, ap, subst, rules, ◌∙◌}
+use Rattle.std.proofs.Common.{◌≡◌, ◌<◌, List, length, nat_lt, true, false, sym, ap, subst, ◌∙◌}
 use Rattle.text.specs.Records.{next_at, record_at}
 use Rattle.text.specs.declared.RecordAt.{RecordAt}
 use Rattle.reader.specs.Steps.{after_line, goes_on}
@@ -25,10 +25,10 @@ further c =
     let w = c.loop-reader.walk in
     let at = c.loop-reader.reader.at in
     let on : goes_on w (nat_lt at (length c.args.text.now)) ≡ true =
-        subst (λ (t : List _). goes_on w (nat_lt at (length t)) ≡ true) c.loop-reader.invariant.0
-        (ap (goes_on w) (sym c.more.ensures) ∙ (sym c.goes_on.ensures ∙ c.loop-reader-test.true)) in
+    subst (λ (t : List _). goes_on w (nat_lt at (length t)) ≡ true) c.loop-reader.invariant.0
+    (ap (goes_on w) (sym c.more.ensures) ∙ (sym c.goes_on.ensures ∙ c.loop-reader-test.true)) in
     let found : c.next-found.result ≡ record_at c.args.text.now at =
-        c.next-found.ensures.0 ∙ ap (λ (t : List _). record_at t at) c.loop-reader.invariant.0 in
+    c.next-found.ensures.0 ∙ ap (λ (t : List _). record_at t at) c.loop-reader.invariant.0 in
     stands_next c.args.text.now at c.loop-reader.named c.loop-reader.words _ _ w _ c.loop-reader.invariant.1 on
     (c.take_line-walk.ensures ∙ ap (λ (x : RecordAt). after_line w x c.loop-reader.named c.loop-reader.words) found)
 

@@ -1,5 +1,4 @@
 use native.Mathlib.Omega.{arith}
-use borrow.Author.Rules.{rules}
 use Rattle.reader.proofs.Loops.{after_go, after_refused, after_stop, after_unended, ready_done}
 use Rattle.reader.proofs.Moves.{step_goes, step_stops}
 use Rattle.reader.proofs.take_line.Goals as goal

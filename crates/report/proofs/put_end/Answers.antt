@@ -1,5 +1,4 @@
 use native.Mathlib.Omega.{arith}
-use borrow.Author.Rules.{rules}
 use Rattle.finite.proofs.Puts.{room_behind, put_behind}
 use Rattle.lines.specs.Lines.{steps_line}
 use Rattle.lines.specs.Tables.{word_lines}

@@ -1,5 +1,4 @@
 use native.Mathlib.Omega.{arith}
-use borrow.Author.Rules.{rules}
 use Rattle.finite.proofs.Puts.{room_behind, put_behind}
 use Rattle.lines.specs.Tables.{table_lines, list_lines}
 use Rattle.report.proofs.Joined.{part_start, room_first, sum_most}

@@ -1,6 +1,5 @@
 use Prim.Native.Nat.{ℕ}
 use native.Mathlib.Omega.{arith}
-use borrow.Author.Rules.{rules}
 use lib.ListN.{length-replicate}
 use Rattle.plan.specs.Layout.{plan_words}
 use Rattle.report.proofs.Sizes.{refused_most}

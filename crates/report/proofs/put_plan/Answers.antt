@@ -1,8 +1,6 @@
 use Prim.Native.Nat.{ℕ, ◌*◌, ◌≤◌}
 use mathlib.Core.Path.{◌≡◌}
 use mathlib.Core.List.{List, ◌++◌}
-use native.Mathlib.Omega.{arith}
-use borrow.Author.Rules.{rules}
 use lib.ListN.{length, length-replicate}
 use Rattle.finite.specs.Put.{Room}
 use Rattle.finite.proofs.Puts.{room_behind, put_behind}
@@ -11,7 +9,7 @@ use Rattle.lines.specs.Lines.{steps_line}
 use Rattle.lines.specs.Tables.{table_lines, list_lines, word_lines}
 use Rattle.report.specs.Report.{plan_lines}
 use Rattle.report.proofs.Shown.{lines_shown}
-use Rattle.report.proofs.Joined.{put_as, part_start, room_first, sum_most}
+use Rattle.report.proofs.Joined.{put_as, part_start, room_first}
 use Rattle.report.proofs.put_plan.Goals as goal
 use Rattle.report.proofs.put_plan.Goals.{After-as_index-regions}
 

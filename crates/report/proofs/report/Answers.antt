@@ -1,5 +1,4 @@
 use native.Mathlib.Omega.{arith}
-use borrow.Author.Rules.{rules}
 use Rattle.report.proofs.Reported.{report_short, report_put}
 use Rattle.report.proofs.report.Goals as goal
 

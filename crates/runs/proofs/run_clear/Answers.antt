@@ -1,4 +1,3 @@
-use borrow.Author.Rules.{rules}
 use Rattle.runs.proofs.Opened.{graph_copied, opened_is, from_opening}
 use Rattle.runs.proofs.run_clear.Goals as goal
 

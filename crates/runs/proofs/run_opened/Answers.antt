@@ -1,4 +1,3 @@
-use borrow.Author.Rules.{rules}
 use Rattle.runs.proofs.Opened.{tables_made}
 use Rattle.runs.proofs.run_opened.Goals as goal
 

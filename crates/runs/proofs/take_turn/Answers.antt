@@ -1,4 +1,3 @@
-use borrow.Author.Rules.{rules}
 use Rattle.runs.proofs.Turning.{startable, out, finishable, own_begun, apart_begun, turn_left, set_after}
 use Rattle.runs.proofs.take_turn.Goals as goal
 

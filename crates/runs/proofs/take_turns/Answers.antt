@@ -1,18 +1,9 @@
-use Prim.Native.Nat.{◌*◌, ◌-◌}
-use mathlib.Core.Path.{◌≡◌, refl, ◌∙◌}
+use mathlib.Core.Path.{refl, ◌∙◌}
 use native.Mathlib.Omega.{arith}
 use borrow.Author.Rules.{rules}
-use lib.ListN.{length}
-use Rattle.body.specs.Items.{item_count}
-use Rattle.plan.specs.Limits.{max_accesses}
-use Rattle.plan.specs.Layout.{passes_of}
-use Rattle.graph.specs.Answers.{plan_body}
-use Rattle.masks.specs.Masks.{mask_words}
 use Rattle.steps.specs.Calls.{lent}
-use Rattle.steps.specs.Turns.{Going}
 use Rattle.values.proofs.Plans.{passes_few}
 use Rattle.calls.proofs.Behind.{graph_formed}
-use Rattle.runs.specs.Turns.{ReadyBut, FirstReady}
 use Rattle.runs.proofs.Taking.{first_ready, ready_but, going_starts, going_small, turn_item, turn_going, turn_below, turns_over}
 use Rattle.runs.proofs.take_turns.Goals as goal
 

@@ -1,4 +1,3 @@
-use borrow.Author.Rules.{rules}
 use Rattle.tables.proofs.Filled.{tables_filled}
 use Rattle.tables.proofs.make_tables.Goals as goal
 

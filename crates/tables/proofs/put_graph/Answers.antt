@@ -1,6 +1,5 @@
 use mathlib.Core.Path.{◌∙◌}
 use native.Mathlib.Omega.{arith}
-use borrow.Author.Rules.{rules}
 use lib.ListN.{length-set}
 use Rattle.tables.proofs.Filled.{graph_added}
 use Rattle.tables.proofs.put_graph.Goals as goal

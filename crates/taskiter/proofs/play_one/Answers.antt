@@ -1,5 +1,4 @@
 use native.Mathlib.Omega.{arith}
-use borrow.Author.Rules.{rules}
 use Rattle.taskiter.proofs.Playing.{word_start, word_finish, word_result}
 use Rattle.taskiter.proofs.play_one.Goals as goal
 

@@ -1,6 +1,5 @@
 use mathlib.Core.Path.{sym}
 use native.Mathlib.Omega.{arith}
-use borrow.Author.Rules.{rules}
 use lib.Seq.{length-take-le}
 use Rattle.taskiter.proofs.Showing.{run_short, run_refused, plan_room, run_asks, results_ask, run_shown}
 use Rattle.taskiter.proofs.run.Goals as goal

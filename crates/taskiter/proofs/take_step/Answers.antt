@@ -1,5 +1,4 @@
 use mathlib.Core.Path.{sym}
-use borrow.Author.Rules.{rules}
 use lib.Seq.{length-take-le}
 use Rattle.calls.proofs.Behind.{told_refused}
 use Rattle.taskiter.proofs.Exported.{state_room, values_long, step_refused, step_started, step_finished}
@@ -16,11 +15,10 @@ slice_bounds-words-end c =
     (state_room c.args.plan.now c.args.counts.now c.args.values.now _ _ c.enter_state-entry.ensures c.if-entry-ne0.false))
 
 pub start_clear-requires : goal.start_clear-requires
-start_clear-requires c =
-    (
-      c.enter_state-entry.ensures.clear c.if-entry-ne0.false,
-      values_long c.args.plan.now c.args.counts.now c.args.values.now _ _ c.enter_state-entry.ensures c.if-entry-ne0.false,
-    )
+start_clear-requires c = (
+  c.enter_state-entry.ensures.clear c.if-entry-ne0.false,
+  values_long c.args.plan.now c.args.counts.now c.args.values.now _ _ c.enter_state-entry.ensures c.if-entry-ne0.false,
+)
 
 pub returns-then-starts : goal.returns-then-starts
 returns-then-starts c =
@@ -28,11 +26,10 @@ returns-then-starts c =
     c.args.item c.args.starts c.if-starts.true _ c.start_clear.ensures
 
 pub finish_clear-requires : goal.finish_clear-requires
-finish_clear-requires c =
-    (
-      c.enter_state-entry.ensures.clear c.if-entry-ne0.false,
-      values_long c.args.plan.now c.args.counts.now c.args.values.now _ _ c.enter_state-entry.ensures c.if-entry-ne0.false,
-    )
+finish_clear-requires c = (
+  c.enter_state-entry.ensures.clear c.if-entry-ne0.false,
+  values_long c.args.plan.now c.args.counts.now c.args.values.now _ _ c.enter_state-entry.ensures c.if-entry-ne0.false,
+)
 
 pub returns : goal.returns
 returns c =

@@ -1,5 +1,4 @@
 use mathlib.Core.Path.{sym, ◌∙◌}
-use borrow.Author.Rules.{rules}
 use Rattle.taskiter.proofs.Exported.{state_room, values_long}
 use Rattle.taskiter.proofs.Checking.{more_short, more_refused, more_made}
 use Rattle.taskiter.proofs.taskiter_check_more.Goals as goal

@@ -1,5 +1,4 @@
 use native.Mathlib.Omega.{arith}
-use borrow.Author.Rules.{rules}
 use Rattle.checker.proofs.Stepping.{finishable}
 use Rattle.taskiter.proofs.Stepped.{freeing_short, freeing_refused, freeing_made}
 use Rattle.taskiter.proofs.taskiter_finish_freeing.Goals as goal
@@ -16,12 +15,11 @@ returns-then-refusal-ne0 c =
     (omega (arith, c.if-freed-lt-FREED.false)) _ c.finish_refusal-refusal.ensures c.if-refusal-ne0.true)
 
 pub finish_item-requires : goal.finish_item-requires
-finish_item-requires c =
-    (
-      rw c.as_index.ensures
-          (finishable c.args.plan.now c.args.tables.now c.args.counts.now c.args.values.now c.args.item _ c.finish_refusal-refusal.ensures c.if-refusal-ne0.false),
-      omega (arith, c.if-freed-lt-FREED.false),
-    )
+finish_item-requires c = (
+  rw c.as_index.ensures
+      (finishable c.args.plan.now c.args.tables.now c.args.counts.now c.args.values.now c.args.item _ c.finish_refusal-refusal.ensures c.if-refusal-ne0.false),
+  omega (arith, c.if-freed-lt-FREED.false),
+)
 
 pub returns : goal.returns
 returns c =

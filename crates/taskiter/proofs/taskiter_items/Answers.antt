@@ -1,6 +1,5 @@
 use mathlib.Core.Path.{refl, sym}
 use native.Mathlib.Omega.{arith}
-use borrow.Author.Rules.{rules}
 use lib.Seq.{length-take-le}
 use Rattle.taskiter.proofs.Exported.{items_short, items_entered}
 use Rattle.taskiter.proofs.taskiter_items.Goals as goal

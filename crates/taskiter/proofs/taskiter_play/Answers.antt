@@ -1,10 +1,8 @@
-use Prim.Native.Nat.{◌*◌, ◌-◌, ◌≤◌}
-use mathlib.Core.Path.{◌≡◌, refl}
+use mathlib.Core.Path.{refl}
 use native.Mathlib.Omega.{arith}
 use borrow.Author.Rules.{rules}
-use lib.ListN.{length, length-set}
-use Rattle.steps.specs.Calls.{lent}
-use Rattle.taskiter.proofs.Playing.{play_room, play_long, played_short, Rest, rest_none, rest_more, played_done}
+use lib.ListN.{length-set}
+use Rattle.taskiter.proofs.Playing.{play_room, play_long, played_short, rest_none, rest_more, played_done}
 use Rattle.taskiter.proofs.taskiter_play.Goals as goal
 
 pub is_short-requires : goal.is_short-requires
@@ -16,15 +14,14 @@ returns-then-is_short-answers c =
     c.is_short.ensures c.if-is_short-answers.true
 
 pub loop-k-init : goal.loop-k-init
-loop-k-init c =
-    (
-      rest_none _ _ _ _,
-      play_room c.args.plan.now c.args.counts.now c.args.values.now c.args.calls.now c.args.answers.now _
-          c.is_short.ensures c.if-is_short-answers.false,
-      refl,
-      refl,
-      refl,
-    )
+loop-k-init c = (
+  rest_none _ _ _ _,
+  play_room c.args.plan.now c.args.counts.now c.args.values.now c.args.calls.now c.args.answers.now _
+      c.is_short.ensures c.if-is_short-answers.false,
+  refl,
+  refl,
+  refl,
+)
 
 pub bounds-answers-k-in-loop-k : goal.bounds-answers-k-in-loop-k
 bounds-answers-k-in-loop-k c = simp length-set (search rules)

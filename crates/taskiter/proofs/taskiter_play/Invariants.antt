@@ -1,10 +1,8 @@
 use Prim.Native.Nat.{◌*◌, ◌-◌, ◌≤◌}
-use mathlib.Core.Path.{◌≡◌, refl}
-use native.Mathlib.Omega.{arith}
-use borrow.Author.Rules.{rules}
-use lib.ListN.{length, length-set}
+use mathlib.Core.Path.{◌≡◌}
+use lib.ListN.{length}
 use Rattle.steps.specs.Calls.{lent}
-use Rattle.taskiter.proofs.Playing.{play_room, play_long, played_short, Rest, rest_none, rest_more, played_done}
+use Rattle.taskiter.proofs.Playing.{Rest}
 use Rattle.taskiter.proofs.taskiter_play.Given as goal
 
 abbrev pub invariant-loop-k : goal.invariant-loop-k

@@ -1,6 +1,5 @@
 use mathlib.Core.Path.{◌≡◌, sym, ◌∙◌, ap}
 use mathlib.Core.Bool.{Bool, false, ◌||◌}
-use borrow.Author.Rules.{rules}
 use borrow.Author.Tests.{ltb-false}
 use lib.Dec.{ltb}
 use lib.ListN.{length}
@@ -32,11 +31,10 @@ slice_bounds-ready_clear-end c =
     (state_room c.args.plan.now c.args.counts.now c.args.values.now _ _ c.enter_state-entry.ensures c.if-entry-ne0.false))
 
 pub ready_clear-number-requires : goal.ready_clear-number-requires
-ready_clear-number-requires c =
-    (
-      c.enter_state-entry.ensures.clear c.if-entry-ne0.false,
-      ltb-false _ _ (room (goal.at.ready_clear-number-requires c).Else-is_short-items),
-    )
+ready_clear-number-requires c = (
+  c.enter_state-entry.ensures.clear c.if-entry-ne0.false,
+  ltb-false _ _ (room (goal.at.ready_clear-number-requires c).Else-is_short-items),
+)
 
 pub returns : goal.returns
 returns c =

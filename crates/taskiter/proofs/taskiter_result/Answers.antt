@@ -1,5 +1,4 @@
 use mathlib.Core.Path.{sym, ◌∙◌}
-use borrow.Author.Rules.{rules}
 use lib.Seq.{length-take-le}
 use Rattle.steps.proofs.Answering.{result_short}
 use Rattle.calls.proofs.Behind.{told_refused}
@@ -24,12 +23,11 @@ slice_bounds-result_clear-end c =
     (state_room c.args.plan.now c.args.counts.now c.args.values.now _ _ c.enter_state-entry.ensures c.if-entry-ne0.false))
 
 pub result_clear-requires : goal.result_clear-requires
-result_clear-requires c =
-    (
-      c.enter_state-entry.ensures.clear c.if-entry-ne0.false,
-      values_long c.args.plan.now c.args.counts.now c.args.values.now _ _
-          c.enter_state-entry.ensures c.if-entry-ne0.false,
-    )
+result_clear-requires c = (
+  c.enter_state-entry.ensures.clear c.if-entry-ne0.false,
+  values_long c.args.plan.now c.args.counts.now c.args.values.now _ _
+      c.enter_state-entry.ensures c.if-entry-ne0.false,
+)
 
 pub returns : goal.returns
 returns c =

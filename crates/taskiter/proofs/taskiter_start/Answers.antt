@@ -1,5 +1,4 @@
 use mathlib.Core.Path.{sym, ◌∙◌}
-use borrow.Author.Rules.{rules}
 use Rattle.steps.proofs.Answering.{start_short}
 use Rattle.calls.proofs.Behind.{told_refused}
 use Rattle.taskiter.proofs.taskiter_start.Goals as goal

@@ -1,5 +1,4 @@
 use mathlib.Core.Path.{sym}
-use borrow.Author.Rules.{rules}
 use lib.Seq.{length-take-le}
 use Rattle.taskiter.proofs.Exported.{graph_room, total_refused, total_made}
 use Rattle.taskiter.proofs.taskiter_total.Goals as goal

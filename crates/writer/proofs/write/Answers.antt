@@ -1,7 +1,6 @@
 use Prim.Native.Nat.{◌≤◌}
 use mathlib.Core.Path.{◌≡◌, sym, ◌∙◌}
 use mathlib.Core.Bool.{true}
-use borrow.Author.Rules.{rules}
 use borrow.Author.Tests.{leb-true, not-true, not-false}
 use lib.ListN.{length}
 use lib.Seq.{length-take-le}
@@ -41,12 +40,11 @@ returns-then-not-has_room c =
     write_no_room s.plan.now s.text.now (long (goal.at.returns-then-not-has_room c).Else-not-in_form) _ (form (goal.at.returns-then-not-has_room c).Else-not-in_form) (sym c.has_room.ensures ∙ not-true _ c.if-not-has_room.true-raw) c.no_number-then-not-has_room.ensures
 
 pub put_text-requires : goal.put_text-requires
-put_text-requires c =
-    (
-      length-take-le plan_words c.args.plan.now (long (goal.at.put_text-requires c).Else-not-in_form),
-      form (goal.at.put_text-requires c).Else-not-in_form,
-      leb-true _ _ (sym c.has_room.ensures ∙ not-false _ c.if-not-has_room.false-raw),
-    )
+put_text-requires c = (
+  length-take-le plan_words c.args.plan.now (long (goal.at.put_text-requires c).Else-not-in_form),
+  form (goal.at.put_text-requires c).Else-not-in_form,
+  leb-true _ _ (sym c.has_room.ensures ∙ not-false _ c.if-not-has_room.false-raw),
+)
 
 pub returns : goal.returns
 returns c =

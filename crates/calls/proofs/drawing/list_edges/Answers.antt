@@ -1,4 +1,3 @@
-use borrow.Author.Rules.{rules}
 use Rattle.calls.proofs.Listed.{drawn}
 use Rattle.calls.proofs.drawing.list_edges.Goals as goal
 

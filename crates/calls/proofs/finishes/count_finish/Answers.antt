@@ -10,13 +10,12 @@ overflow_add-counts-2 c =
     omega (arith, c.requires.3, lowered_passes _ _ _ _ c.requires.0 c.requires.1 c.args.counts.now _ c.requires.2 c.lower_waits.ensures c.args.a c.requires.1)
 
 pub count_unmet-requires : goal.count_unmet-requires
-count_unmet-requires c =
-    (
-      c.requires.0,
-      c.mark_edges.ensures.1,
-      c.requires.1,
-      simp length-set (omega (arith, c.requires.2, lowered_length _ _ _ _ c.requires.0 c.requires.1 c.args.counts.now _ c.requires.2 c.lower_waits.ensures)),
-    )
+count_unmet-requires c = (
+  c.requires.0,
+  c.mark_edges.ensures.1,
+  c.requires.1,
+  simp length-set (omega (arith, c.requires.2, lowered_length _ _ _ _ c.requires.0 c.requires.1 c.args.counts.now _ c.requires.2 c.lower_waits.ensures)),
+)
 
 pub bounds-counts-a-3 : goal.bounds-counts-a-3
 bounds-counts-a-3 c = simp length-set (search rules)

@@ -1,5 +1,4 @@
 use native.Mathlib.Omega.{arith}
-use borrow.Author.Rules.{rules}
 use Rattle.calls.proofs.Behind.{told_refused, finish_beyond, finish_idle, finish_made, finish_asks, write_asks}
 use Rattle.calls.proofs.finishes.finish_clear.Goals as goal
 

@@ -1,4 +1,3 @@
-use borrow.Author.Rules.{rules}
 use Rattle.calls.proofs.Behind.{open_made}
 use Rattle.calls.proofs.openings.open_clear.Goals as goal
 

@@ -1,5 +1,4 @@
 use mathlib.Core.Path.{◌∙◌}
-use borrow.Author.Rules.{rules}
 use Rattle.calls.proofs.Readying.{put_fits, put_none, put_one}
 use Rattle.calls.proofs.ready.put_item.Goals as goal
 

@@ -1,5 +1,4 @@
 use native.Mathlib.Omega.{arith}
-use borrow.Author.Rules.{rules}
 use Rattle.graph.proofs.Lookup.{passes_most, codes_few}
 use Rattle.calls.proofs.Behind.{told_refused, start_beyond, start_done, start_running, start_waiting, start_made, start_asks}
 use Rattle.calls.proofs.starts.start_clear.Goals as goal

@@ -1,12 +1,8 @@
-use Prim.Native.Nat.{◌-◌, ◌*◌, ◌≤◌}
-use mathlib.Core.Path.{◌≡◌, ap}
+use Prim.Native.Nat.{◌*◌}
+use mathlib.Core.Path.{ap}
 use native.Mathlib.Omega.{arith}
 use borrow.Author.Rules.{rules}
-use lib.ListN.{get_or}
-use Rattle.finite.specs.Below.{sum_below}
 use Rattle.finite.proofs.Below.{sum_none, sum_more, sum_done}
-use Rattle.plan.specs.Limits.{max_passes}
-use Rattle.plan.specs.Code.{code_fewer}
 use Rattle.graph.proofs.Lookup.{passes_most, codes_few}
 use Rattle.calls.proofs.Behind.{total_is}
 use Rattle.calls.proofs.totals.total_steps.Goals as goal
@@ -22,12 +18,11 @@ own_passes-own-requires c =
     codes_few _ _ _ c.requires c.loop-a.a c.loop-a-test.true
 
 pub loop-a-preserved : goal.loop-a-preserved
-loop-a-preserved c =
-    (
-      search rules,
-      search rules,
-      sum_more _ _ _ _ c.loop-a.invariant.2 (ap (λ k. 2 * k) c.own_passes-own.ensures),
-    )
+loop-a-preserved c = (
+  search rules,
+  search rules,
+  sum_more _ _ _ _ c.loop-a.invariant.2 (ap (λ k. 2 * k) c.own_passes-own.ensures),
+)
 
 pub returns : goal.returns
 returns c =

@@ -1,14 +1,9 @@
 use Prim.Native.Nat.{◌-◌, ◌*◌, ◌≤◌}
-use mathlib.Core.Path.{◌≡◌, ap}
-use native.Mathlib.Omega.{arith}
-use borrow.Author.Rules.{rules}
+use mathlib.Core.Path.{◌≡◌}
 use lib.ListN.{get_or}
 use Rattle.finite.specs.Below.{sum_below}
-use Rattle.finite.proofs.Below.{sum_none, sum_more, sum_done}
 use Rattle.plan.specs.Limits.{max_passes}
 use Rattle.plan.specs.Code.{code_fewer}
-use Rattle.graph.proofs.Lookup.{passes_most, codes_few}
-use Rattle.calls.proofs.Behind.{total_is}
 use Rattle.calls.proofs.totals.total_steps.Given as goal
 
 abbrev pub invariant-loop-a : goal.invariant-loop-a

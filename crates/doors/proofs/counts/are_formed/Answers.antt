@@ -1,13 +1,9 @@
-use Prim.Native.Nat.{◌+◌, ◌-◌, ◌≤◌}
-use mathlib.Core.Path.{◌≡◌}
-use mathlib.Core.Bool.{◌&&◌}
+use Prim.Native.Nat.{◌+◌}
 use borrow.Author.Rules.{rules}
-use lib.Dec.{ltb}
 use Rattle.finite.proofs.Tests.{and_parts}
 use Rattle.finite.proofs.Below.{all_none, all_done}
-use Rattle.plan.specs.Counts.{top_bit}
 use Rattle.steps.specs.State.{first_finished, first_unmet}
-use Rattle.doors.proofs.Counting.{formed_to, formed_more, numbers_to, numbers_more}
+use Rattle.doors.proofs.Counting.{formed_more, numbers_more}
 use Rattle.doors.proofs.counts.are_formed.Goals as goal
 
 pub loop-a-init : goal.loop-a-init

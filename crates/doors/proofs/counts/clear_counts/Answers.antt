@@ -1,10 +1,7 @@
-use Prim.Native.Nat.{◌-◌, ◌≤◌}
-use mathlib.Core.Path.{◌≡◌}
 use native.Mathlib.Omega.{arith}
 use borrow.Author.Rules.{rules}
-use lib.ListN.{length, length-set}
-use Rattle.finite.specs.Update.{replaced}
-use Rattle.doors.proofs.Counting.{counts_below, counts_none, counts_more, counts_done}
+use lib.ListN.{length-set}
+use Rattle.doors.proofs.Counting.{counts_none, counts_more, counts_done}
 use Rattle.doors.proofs.counts.clear_counts.Goals as goal
 
 pub loop-a-init : goal.loop-a-init

@@ -1,10 +1,8 @@
 use Prim.Native.Nat.{◌-◌, ◌≤◌}
 use mathlib.Core.Path.{◌≡◌}
-use native.Mathlib.Omega.{arith}
-use borrow.Author.Rules.{rules}
-use lib.ListN.{length, length-set}
+use lib.ListN.{length}
 use Rattle.finite.specs.Update.{replaced}
-use Rattle.doors.proofs.Counting.{counts_below, counts_none, counts_more, counts_done}
+use Rattle.doors.proofs.Counting.{counts_below}
 use Rattle.doors.proofs.counts.clear_counts.Given as goal
 
 abbrev pub invariant-loop-a : goal.invariant-loop-a

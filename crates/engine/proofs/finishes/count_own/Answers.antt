@@ -1,6 +1,4 @@
 use mathlib.Core.Path.{refl, ap}
-use borrow.Author.Rules.{rules}
-use lib.ListN.{length-set}
 use Rattle.plan.specs.Code.{code_fewer}
 use Rattle.engine.proofs.Finished.{own_counted, own_ready}
 use Rattle.engine.proofs.finishes.count_own.Goals as goal

@@ -1,5 +1,4 @@
 use mathlib.Core.Path.{refl}
-use borrow.Author.Rules.{rules}
 use Rattle.prepared.specs.Tables.{target_count, target_in}
 use Rattle.engine.proofs.Finished.{own_countable, finished_by, own_entered, own_unentered, own_outside}
 use Rattle.engine.proofs.finishes.finish_into_set.Goals as goal

@@ -1,9 +1,6 @@
 use Prim.Native.Nat.{◌+◌, ◌≤◌}
-use mathlib.Core.Logic.{⊎_elim}
 use mathlib.Core.Path.{refl, ◌∙◌}
 use native.Mathlib.Omega.{arith}
-use borrow.Author.Rules.{rules}
-use lib.ListN.{length-set}
 use Rattle.finite.specs.Put.{Added}
 use Rattle.plan.specs.Sizes.{max_items}
 use Rattle.prepared.specs.Steps.{freed_in}
@@ -31,12 +28,12 @@ listed c =
     let low = c.lower_into_list-at.ensures.0 in
     let la = c.requires.0.sized.below in
     elim c.if-count_own.branch [
-      then-count_own w ↦ (
+      | then-count_own w ↦ (
         own_listed P T C W a _ la c.passes_of.ensures _ low _ c.count_own.ensures.1 c.args.freed.now _ _ c.lower_into_list-at.ensures.1 w.if-count_own.true _
             (w.narrow_16.ensures ∙ w.as_word.ensures) c.if-count_own.at c.if-count_own.freed w.freed-is w.at-is,
         omega (arith, w.at-is, c.lower_into_list-at.ensures.2),
       )
-    | else-count_own w ↦ (
+      | else-count_own w ↦ (
         own_unlisted P T C W a _ la c.passes_of.ensures _ low _ c.count_own.ensures.1 c.args.freed.now _ _ c.lower_into_list-at.ensures.1 w.if-count_own.false
             c.if-count_own.at c.if-count_own.freed w.freed-is w.at-is,
         omega (arith, w.at-is, c.lower_into_list-at.ensures.2),

@@ -1,25 +1,21 @@
-use Prim.Native.Nat.{◌+◌, ◌*◌, ◌-◌, ◌≤◌, ◌<◌}
-use mathlib.Core.Path.{◌≡◌, refl}
+use Prim.Native.Nat.{◌<◌}
+use mathlib.Core.Path.{refl}
 use native.Mathlib.Omega.{arith}
-use borrow.Author.Rules.{rules}
-use lib.ListN.{length, length-set}
-use Rattle.finite.specs.Lists.{mem, tabulate}
-use Rattle.finite.specs.Update.{replaced}
+use lib.ListN.{length-set}
 use Rattle.plan.specs.Sizes.{first_held}
-use Rattle.prepared.specs.Tables.{first_write, place_count, place_in}
+use Rattle.prepared.specs.Tables.{first_write}
 use Rattle.engine.proofs.Rows.{place_read, place_small, written_none, written_more, written_done}
 use Rattle.engine.proofs.finishes.write_word.Goals as goal
 use Rattle.engine.proofs.finishes.write_word.Goals.{After-index_16}
 
 pub loop-k-init : goal.loop-k-init
-loop-k-init c =
-    (
-      refl,
-      place_read c.args.tables.now first_write c.args.a 8 _ c.index_16-count.ensures,
-      omega arith,
-      refl,
-      written_none c.args.tables.now first_write c.args.a c.args.word c.args.values.now,
-    )
+loop-k-init c = (
+  refl,
+  place_read c.args.tables.now first_write c.args.a 8 _ c.index_16-count.ensures,
+  omega arith,
+  refl,
+  written_none c.args.tables.now first_write c.args.a c.args.word c.args.values.now,
+)
 
 pub bounds-tables-row-in-loop-k : goal.bounds-tables-row-in-loop-k
 bounds-tables-row-in-loop-k c =

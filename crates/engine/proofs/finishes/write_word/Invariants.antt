@@ -1,13 +1,9 @@
-use Prim.Native.Nat.{◌+◌, ◌*◌, ◌-◌, ◌≤◌, ◌<◌}
-use mathlib.Core.Path.{◌≡◌, refl}
-use native.Mathlib.Omega.{arith}
-use borrow.Author.Rules.{rules}
-use lib.ListN.{length, length-set}
+use Prim.Native.Nat.{◌+◌, ◌*◌, ◌-◌, ◌≤◌}
+use mathlib.Core.Path.{◌≡◌}
+use lib.ListN.{length}
 use Rattle.finite.specs.Lists.{mem, tabulate}
 use Rattle.finite.specs.Update.{replaced}
-use Rattle.plan.specs.Sizes.{first_held}
 use Rattle.prepared.specs.Tables.{first_write, place_count, place_in}
-use Rattle.engine.proofs.Rows.{place_read, place_small, written_none, written_more, written_done}
 use Rattle.engine.proofs.finishes.write_word.Given as goal
 
 abbrev pub invariant-loop-k : goal.invariant-loop-k

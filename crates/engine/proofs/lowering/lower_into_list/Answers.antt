@@ -1,26 +1,22 @@
-use Prim.Native.Nat.{◌+◌, ◌-◌, ◌≤◌, ◌<◌}
-use mathlib.Core.Logic.{⊎_elim}
+use Prim.Native.Nat.{◌+◌, ◌<◌}
 use mathlib.Core.Path.{◌≡◌, refl, sym}
 use native.Mathlib.Omega.{arith}
-use borrow.Author.Rules.{rules}
-use lib.ListN.{length}
 use Rattle.plan.specs.Sizes.{max_items, max_edges}
-use Rattle.prepared.specs.Tables.{start_in, target_count, target_in}
+use Rattle.prepared.specs.Tables.{target_count, target_in}
 use Rattle.engine.proofs.Lowered.{Listed, listed_none, listed_few, listed_length, listed_more, listed_same, listed_done, target_read}
 use Rattle.engine.proofs.lowering.lower_into_list.Goals as goal
 use Rattle.engine.proofs.lowering.lower_into_list.Goals.{then-lower_number, else-lower_number}
 use Rattle.engine.proofs.lowering.lower_into_list.Goals.{After-index_16, In-loop-k, Joined-lower_number}
 
 pub loop-k-init : goal.loop-k-init
-loop-k-init c =
-    (
-      c.index_16-from.ensures,
-      c.target_count-count.ensures,
-      omega arith,
-      refl,
-      omega arith,
-      listed_none (target_in c.args.tables.now c.args.a) c.args.counts.now c.args.freed.now,
-    )
+loop-k-init c = (
+  c.index_16-from.ensures,
+  c.target_count-count.ensures,
+  omega arith,
+  refl,
+  omega arith,
+  listed_none (target_in c.args.tables.now c.args.a) c.args.counts.now c.args.freed.now,
+)
 
 -- where a turn's target stands
 within : (c : In-loop-k) → c.index_16-from.result + c.loop-k.k < max_edges
@@ -66,12 +62,12 @@ turned c t =
     let b = c.index_16.result in
     let n = c.lower_number in
     elim c.if-lower_number.branch [
-      then-lower_number w ↦
-      listed_more f c.args.counts.now c.args.freed.now l.k l.counts l.at l.freed l.invariant.5 b t.0 n.new.counts n.ensures.0
-      n.result n.ensures.1 w.if-lower_number.true _ (sym c.index_16.ensures) c.if-lower_number.freed w.freed-is c.if-lower_number.at w.at-is
-    | else-lower_number w ↦
-      listed_same f c.args.counts.now c.args.freed.now l.k l.counts l.at l.freed l.invariant.5 b t.0 n.new.counts n.ensures.0
-      n.result n.ensures.1 w.if-lower_number.false c.if-lower_number.freed w.freed-is c.if-lower_number.at w.at-is
+      | then-lower_number w ↦
+          listed_more f c.args.counts.now c.args.freed.now l.k l.counts l.at l.freed l.invariant.5 b t.0 n.new.counts n.ensures.0
+          n.result n.ensures.1 w.if-lower_number.true _ (sym c.index_16.ensures) c.if-lower_number.freed w.freed-is c.if-lower_number.at w.at-is
+      | else-lower_number w ↦
+          listed_same f c.args.counts.now c.args.freed.now l.k l.counts l.at l.freed l.invariant.5 b t.0 n.new.counts n.ensures.0
+          n.result n.ensures.1 w.if-lower_number.false c.if-lower_number.freed w.freed-is c.if-lower_number.at w.at-is
     ]
 
 pub loop-k-preserved : goal.loop-k-preserved

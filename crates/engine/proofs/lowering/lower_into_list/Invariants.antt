@@ -1,12 +1,8 @@
-use Prim.Native.Nat.{◌+◌, ◌-◌, ◌≤◌, ◌<◌}
-use mathlib.Core.Logic.{⊎_elim}
-use mathlib.Core.Path.{◌≡◌, refl, sym}
-use native.Mathlib.Omega.{arith}
-use borrow.Author.Rules.{rules}
+use Prim.Native.Nat.{◌+◌, ◌-◌, ◌≤◌}
+use mathlib.Core.Path.{◌≡◌}
 use lib.ListN.{length}
-use Rattle.plan.specs.Sizes.{max_items, max_edges}
 use Rattle.prepared.specs.Tables.{start_in, target_count, target_in}
-use Rattle.engine.proofs.Lowered.{Listed, listed_none, listed_few, listed_length, listed_more, listed_same, listed_done, target_read}
+use Rattle.engine.proofs.Lowered.{Listed}
 use Rattle.engine.proofs.lowering.lower_into_list.Given as goal
 
 abbrev pub invariant-loop-k : goal.invariant-loop-k

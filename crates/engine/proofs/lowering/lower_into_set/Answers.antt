@@ -1,27 +1,23 @@
-use Prim.Native.Nat.{◌+◌, ◌-◌, ◌≤◌, ◌<◌}
-use mathlib.Core.Logic.{⊎_elim}
+use Prim.Native.Nat.{◌+◌, ◌<◌}
 use mathlib.Core.Path.{◌≡◌, refl, ◌∙◌, sym}
 use native.Mathlib.Omega.{arith}
-use borrow.Author.Rules.{rules}
 use borrow.Author.Tests.{eqb-true, eqb-false}
-use lib.ListN.{length}
 use Rattle.plan.specs.Sizes.{max_items, max_edges}
 use Rattle.steps.specs.State.{unmet_by}
-use Rattle.prepared.specs.Tables.{start_in, target_count, target_in}
+use Rattle.prepared.specs.Tables.{target_count, target_in}
 use Rattle.engine.proofs.Lowered.{Gathered, gathered_none, gathered_length, gathered_more, gathered_same, gathered_done, target_read}
 use Rattle.engine.proofs.lowering.lower_into_set.Goals as goal
 use Rattle.engine.proofs.lowering.lower_into_set.Goals.{then-lower_number, else-lower_number}
 use Rattle.engine.proofs.lowering.lower_into_set.Goals.{After-index_16-target, In-loop-k, Joined-lower_number}
 
 pub loop-k-init : goal.loop-k-init
-loop-k-init c =
-    (
-      c.index_16-from.ensures,
-      c.target_count-count.ensures,
-      omega arith,
-      refl,
-      gathered_none (target_in c.args.tables.now c.args.a) c.args.counts.now c.args.words.now c.requires.4 c.requires.5,
-    )
+loop-k-init c = (
+  c.index_16-from.ensures,
+  c.target_count-count.ensures,
+  omega arith,
+  refl,
+  gathered_none (target_in c.args.tables.now c.args.a) c.args.counts.now c.args.words.now c.requires.4 c.requires.5,
+)
 
 -- where a turn's target stands
 within : (c : In-loop-k) → c.index_16-from.result + c.loop-k.k < max_edges
@@ -72,13 +68,13 @@ turned c t =
     let b = c.index_16-target.result in
     let n = c.lower_number in
     elim c.if-lower_number.branch [
-      then-lower_number w ↦
-      gathered_more f c.args.counts.now c.args.words.now l.k l.counts l.words l.invariant.4 c.requires.3 b t.0 t.1 n.new.counts n.ensures.0
-      (eqb-true (unmet_by l.counts b) 1 (sym n.ensures.1 ∙ w.if-lower_number.true)) c.if-lower_number.words (rw w.words-is w.insert.ensures)
-    | else-lower_number w ↦
-      rw w.words-is
-      (gathered_same f c.args.counts.now c.args.words.now l.k l.counts l.words l.invariant.4 c.requires.3 b t.0 t.1 n.new.counts n.ensures.0
-      (eqb-false (unmet_by l.counts b) 1 (sym n.ensures.1 ∙ w.if-lower_number.false)))
+      | then-lower_number w ↦
+          gathered_more f c.args.counts.now c.args.words.now l.k l.counts l.words l.invariant.4 c.requires.3 b t.0 t.1 n.new.counts n.ensures.0
+          (eqb-true (unmet_by l.counts b) 1 (sym n.ensures.1 ∙ w.if-lower_number.true)) c.if-lower_number.words (rw w.words-is w.insert.ensures)
+      | else-lower_number w ↦
+          rw w.words-is
+          (gathered_same f c.args.counts.now c.args.words.now l.k l.counts l.words l.invariant.4 c.requires.3 b t.0 t.1 n.new.counts n.ensures.0
+          (eqb-false (unmet_by l.counts b) 1 (sym n.ensures.1 ∙ w.if-lower_number.false)))
     ]
 
 pub loop-k-preserved : goal.loop-k-preserved

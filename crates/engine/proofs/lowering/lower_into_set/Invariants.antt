@@ -1,14 +1,8 @@
-use Prim.Native.Nat.{◌+◌, ◌-◌, ◌≤◌, ◌<◌}
-use mathlib.Core.Logic.{⊎_elim}
-use mathlib.Core.Path.{◌≡◌, refl, ◌∙◌, sym}
-use native.Mathlib.Omega.{arith}
-use borrow.Author.Rules.{rules}
-use borrow.Author.Tests.{eqb-true, eqb-false}
+use Prim.Native.Nat.{◌-◌, ◌≤◌}
+use mathlib.Core.Path.{◌≡◌}
 use lib.ListN.{length}
-use Rattle.plan.specs.Sizes.{max_items, max_edges}
-use Rattle.steps.specs.State.{unmet_by}
 use Rattle.prepared.specs.Tables.{start_in, target_count, target_in}
-use Rattle.engine.proofs.Lowered.{Gathered, gathered_none, gathered_length, gathered_more, gathered_same, gathered_done, target_read}
+use Rattle.engine.proofs.Lowered.{Gathered}
 use Rattle.engine.proofs.lowering.lower_into_set.Given as goal
 
 abbrev pub invariant-loop-k : goal.invariant-loop-k

@@ -1,13 +1,10 @@
-use Prim.Native.Nat.{ℕ, ◌+◌, ◌*◌, ◌-◌, ◌≤◌, ◌<◌}
+use Prim.Native.Nat.{ℕ, ◌<◌}
 use mathlib.Core.Path.{◌≡◌, refl, sym, ◌∙◌, ap}
 use native.Mathlib.Omega.{arith}
-use borrow.Author.Rules.{rules}
-use lib.ListN.{length, get_or, take, length-set}
-use Rattle.finite.specs.Lists.{tabulate}
+use lib.ListN.{get_or, take, length-set}
 use Rattle.finite.proofs.Lists.{tabulate_none, tabulate_more}
-use Rattle.plan.specs.Limits.{max_accesses}
 use Rattle.plan.specs.Sizes.{first_held}
-use Rattle.prepared.specs.Tables.{first_read, place_count, place_in}
+use Rattle.prepared.specs.Tables.{first_read, place_in}
 use Rattle.engine.proofs.Rows.{place_read, place_small, words_gathered}
 use Rattle.engine.proofs.starts.gather_words.Goals as goal
 use Rattle.engine.proofs.starts.gather_words.Goals.{After-index_16}

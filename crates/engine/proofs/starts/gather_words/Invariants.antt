@@ -1,14 +1,9 @@
-use Prim.Native.Nat.{ℕ, ◌+◌, ◌*◌, ◌-◌, ◌≤◌, ◌<◌}
-use mathlib.Core.Path.{◌≡◌, refl, sym, ◌∙◌, ap}
-use native.Mathlib.Omega.{arith}
-use borrow.Author.Rules.{rules}
-use lib.ListN.{length, get_or, take, length-set}
+use Prim.Native.Nat.{◌+◌, ◌*◌, ◌-◌, ◌≤◌}
+use mathlib.Core.Path.{◌≡◌}
+use lib.ListN.{length, get_or, take}
 use Rattle.finite.specs.Lists.{tabulate}
-use Rattle.finite.proofs.Lists.{tabulate_none, tabulate_more}
 use Rattle.plan.specs.Limits.{max_accesses}
-use Rattle.plan.specs.Sizes.{first_held}
 use Rattle.prepared.specs.Tables.{first_read, place_count, place_in}
-use Rattle.engine.proofs.Rows.{place_read, place_small, words_gathered}
 use Rattle.engine.proofs.starts.gather_words.Given as goal
 
 abbrev pub invariant-loop-k : goal.invariant-loop-k

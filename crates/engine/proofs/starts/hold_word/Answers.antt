@@ -1,6 +1,5 @@
 use mathlib.Core.Path.{refl}
 use native.Mathlib.Numerals.{add-one}
-use borrow.Author.Rules.{rules}
 use Rattle.engine.proofs.starts.hold_word.Goals as goal
 
 pub returns : goal.returns

@@ -1,6 +1,5 @@
 use mathlib.Core.Path.{sym}
 use native.Mathlib.Omega.{arith}
-use borrow.Author.Rules.{rules}
 use lib.Seq.{length-take-le}
 use Rattle.engine.proofs.Rows.{word_by_lem}
 use Rattle.engine.proofs.starts.item_word.Goals as goal
@@ -11,9 +10,8 @@ slice_bounds-word_from-end-2 c =
     sym (length-take-le g.result g.new.words (omega (arith, g.ensures.1, g.ensures.2)))
 
 pub returns : goal.returns
-returns c =
-    (
-      λ C. word_by_lem c.args.plan.now c.args.tables.now C c.args.values.now c.args.a _ _ _ c.wide_16.ensures.0 c.gather_words-count.ensures.0
-          c.word_from.ensures,
-      c.gather_words-count.ensures.2,
-    )
+returns c = (
+  λ C. word_by_lem c.args.plan.now c.args.tables.now C c.args.values.now c.args.a _ _ _ c.wide_16.ensures.0 c.gather_words-count.ensures.0
+      c.word_from.ensures,
+  c.gather_words-count.ensures.2,
+)

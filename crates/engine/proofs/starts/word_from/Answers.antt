@@ -1,5 +1,4 @@
 use mathlib.Core.Path.{refl, sym, ◌∙◌}
-use borrow.Author.Rules.{rules}
 use Rattle.engine.proofs.Rows.{word_task, word_other, word_empty}
 use Rattle.engine.proofs.starts.word_from.Goals as goal
 

@@ -1,11 +1,8 @@
-use Prim.Native.Nat.{◌+◌, ◌-◌, ◌≤◌, ◌<◌}
-use mathlib.Core.Path.{◌≡◌}
-use mathlib.Core.Logic.{⊎_elim}
+use Prim.Native.Nat.{◌+◌, ◌<◌}
 use native.Mathlib.Omega.{arith}
 use borrow.Author.Rules.{rules}
-use lib.ListN.{length}
 use Rattle.plan.specs.Sizes.{max_items}
-use Rattle.masks.specs.Masks.{mask_words, Entered}
+use Rattle.masks.specs.Masks.{Entered}
 use Rattle.runs.proofs.Readying.{ready_below, below_none, below_out, below_more, below_less, below_done}
 use Rattle.runs.proofs.ready.put_ready.Goals as goal
 use Rattle.runs.proofs.ready.put_ready.Goals.{then-is_ready, else-is_ready}
@@ -31,10 +28,10 @@ loop-b-preserved c =
     let l = c.loop-b in
     let r = c.is_ready in
     let E : Entered c.args.words.now (ready_below c.args.plan.now c.args.counts.now (l.b + 1)) c.if-is_ready.words =
-        elim c.if-is_ready.branch [
-          then-is_ready w ↦
+    elim c.if-is_ready.branch [
+      | then-is_ready w ↦
           rw w.words-is (below_more _ c.args.table.now _ c.requires.0 c.args.counts.now c.args.words.now l.words c.requires.3 l.b l.invariant.2 _ _ r.ensures w.if-is_ready.true w.insert.ensures)
-        | else-is_ready w ↦
+      | else-is_ready w ↦
           rw w.words-is (below_less _ c.args.table.now _ c.requires.0 c.args.counts.now c.args.words.now l.words c.requires.3 l.b l.invariant.2 _ r.ensures w.if-is_ready.false)
-        ] in
+    ] in
     (search rules, E.size, E)

@@ -1,12 +1,8 @@
-use Prim.Native.Nat.{◌+◌, ◌-◌, ◌≤◌, ◌<◌}
+use Prim.Native.Nat.{◌-◌, ◌≤◌}
 use mathlib.Core.Path.{◌≡◌}
-use mathlib.Core.Logic.{⊎_elim}
-use native.Mathlib.Omega.{arith}
-use borrow.Author.Rules.{rules}
 use lib.ListN.{length}
-use Rattle.plan.specs.Sizes.{max_items}
 use Rattle.masks.specs.Masks.{mask_words, Entered}
-use Rattle.runs.proofs.Readying.{ready_below, below_none, below_out, below_more, below_less, below_done}
+use Rattle.runs.proofs.Readying.{ready_below}
 use Rattle.runs.proofs.ready.put_ready.Given as goal
 
 abbrev pub invariant-loop-b : goal.invariant-loop-b

@@ -1,9 +1,6 @@
-use Prim.Native.Nat.{◌-◌, ◌≤◌}
-use mathlib.Core.Path.{◌≡◌, refl}
+use mathlib.Core.Path.{refl}
 use borrow.Author.Rules.{rules}
-use lib.Dec.{ltb}
-use lib.ListN.{length, get_or, length-set}
-use Rattle.finite.specs.Update.{replaced}
+use lib.ListN.{get_or, length-set}
 use Rattle.values.proofs.Opening.{filled_none, filled_more, filled_done}
 use Rattle.runs.proofs.shown.copy_items.Goals as goal
 

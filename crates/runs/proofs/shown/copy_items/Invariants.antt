@@ -1,10 +1,8 @@
 use Prim.Native.Nat.{◌-◌, ◌≤◌}
-use mathlib.Core.Path.{◌≡◌, refl}
-use borrow.Author.Rules.{rules}
+use mathlib.Core.Path.{◌≡◌}
 use lib.Dec.{ltb}
-use lib.ListN.{length, get_or, length-set}
+use lib.ListN.{length, get_or}
 use Rattle.finite.specs.Update.{replaced}
-use Rattle.values.proofs.Opening.{filled_none, filled_more, filled_done}
 use Rattle.runs.proofs.shown.copy_items.Given as goal
 
 abbrev pub invariant-loop-a : goal.invariant-loop-a

@@ -1,13 +1,9 @@
-use Prim.Native.Nat.{◌-◌, ◌≤◌}
-use mathlib.Core.Path.{◌≡◌, refl, ◌∙◌}
+use mathlib.Core.Path.{refl, ◌∙◌}
 use mathlib.Core.List.{[]}
 use native.Mathlib.Omega.{arith}
 use borrow.Author.Rules.{rules}
-use lib.Dec.{ltb}
-use lib.ListN.{length, length-set}
-use Rattle.finite.specs.Update.{replaced}
+use lib.ListN.{length-set}
 use Rattle.body.specs.Places.{result_of}
-use Rattle.plan.specs.Sizes.{result_words}
 use Rattle.plan.specs.Layout.{body_of, regions_of}
 use Rattle.steps.specs.State.{state_of}
 use Rattle.values.proofs.Plans.{facts}

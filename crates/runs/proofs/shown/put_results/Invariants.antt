@@ -1,17 +1,13 @@
 use Prim.Native.Nat.{◌-◌, ◌≤◌}
-use mathlib.Core.Path.{◌≡◌, refl, ◌∙◌}
+use mathlib.Core.Path.{◌≡◌}
 use mathlib.Core.List.{[]}
-use native.Mathlib.Omega.{arith}
-use borrow.Author.Rules.{rules}
 use lib.Dec.{ltb}
-use lib.ListN.{length, length-set}
+use lib.ListN.{length}
 use Rattle.finite.specs.Update.{replaced}
 use Rattle.body.specs.Places.{result_of}
 use Rattle.plan.specs.Sizes.{result_words}
 use Rattle.plan.specs.Layout.{body_of, regions_of}
 use Rattle.steps.specs.State.{state_of}
-use Rattle.values.proofs.Plans.{facts}
-use Rattle.values.proofs.Opening.{filled_none, filled_more, filled_done}
 use Rattle.runs.proofs.shown.put_results.Given as goal
 
 abbrev pub invariant-loop-g : goal.invariant-loop-g

@@ -17,21 +17,19 @@ slot_of-requires c =
     (omega (arith, c.item_kind-kind.ensures, kind_most _ _ _ F), number_most _ _ _ F)
 
 pub returns-then-kind-eq-TASK : goal.returns-then-kind-eq-TASK
-returns-then-kind-eq-TASK c =
-    (
-      added_same
-          (task_listed _ _ _ c.requires.0 c.args.write _ _ (sym c.item_kind-kind.ensures ∙ c.if-kind-eq-TASK.true)
-          c.item_subject-subject.ensures.0 c.first_copy-first.ensures.0)
-          c.list_task.ensures.0,
-      c.list_task.ensures.1,
-    )
+returns-then-kind-eq-TASK c = (
+  added_same
+      (task_listed _ _ _ c.requires.0 c.args.write _ _ (sym c.item_kind-kind.ensures ∙ c.if-kind-eq-TASK.true)
+      c.item_subject-subject.ensures.0 c.first_copy-first.ensures.0)
+      c.list_task.ensures.0,
+  c.list_task.ensures.1,
+)
 
 pub returns : goal.returns
-returns c =
-    (
-      added_same
-          (moved_listed _ _ _ c.requires.0 c.args.write _ _ _ _ c.item_kind-kind.ensures c.if-kind-eq-TASK.false c.slot_of.ensures.0
-          c.first_copy-first.ensures.0 c.item_subject-subject.ensures.0)
-          c.list_moved.ensures.0,
-      c.list_moved.ensures.1,
-    )
+returns c = (
+  added_same
+      (moved_listed _ _ _ c.requires.0 c.args.write _ _ _ _ c.item_kind-kind.ensures c.if-kind-eq-TASK.false c.slot_of.ensures.0
+      c.first_copy-first.ensures.0 c.item_subject-subject.ensures.0)
+      c.list_moved.ensures.0,
+  c.list_moved.ensures.1,
+)

@@ -1,7 +1,6 @@
 use mathlib.Core.Path.{◌∙◌}
 use native.Mathlib.Omega.{arith}
 use borrow.Author.Rules.{rules}
-use lib.ListN.{length-set}
 use Rattle.tables.proofs.Listed.{cond_below, moved_room, moved_written, moved_few, moved_read}
 use Rattle.tables.proofs.listing.list_moved.Goals as goal
 

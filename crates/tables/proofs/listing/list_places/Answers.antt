@@ -1,12 +1,12 @@
 use Prim.Native.Nat.{◌+◌, ◌-◌, ◌*◌, ◌≤◌}
-use mathlib.Core.Path.{◌≡◌, refl, ◌∙◌, ap}
+use mathlib.Core.Path.{refl, ◌∙◌, ap}
 use native.Mathlib.Omega.{arith}
 use borrow.Author.Rules.{rules}
 use lib.ListN.{length, drop, length-drop}
 use lib.Seq.{length-take-le}
 use Rattle.plan.specs.Layout.{body_of}
 use Rattle.values.proofs.Finding.{found_at}
-use Rattle.prepared.specs.Tables.{list_words, padded}
+use Rattle.prepared.specs.Tables.{list_words}
 use Rattle.tables.specs.Rows.{places_of, rows_before}
 use Rattle.tables.proofs.Padded.{padded_added, length_padded}
 use Rattle.tables.proofs.Listed.{row_lent, row_more, length_rows, rows_none, rows_more, rows_done}
@@ -18,8 +18,7 @@ loop-a-init c =
 
 pub list_item-count-requires : goal.list_item-count-requires
 list_item-count-requires c =
-    let l = c.loop-a in
-    (
+    let l = c.loop-a in (
       found_at _ c.args.items.now _ c.requires.0 l.a _ c.loop-a-test.true c.wide_16-code.ensures.0,
       omega (
         arith,

@@ -1,5 +1,4 @@
 use mathlib.Core.Path.{◌∙◌}
-use borrow.Author.Rules.{rules}
 use Rattle.tables.proofs.Listed.{put_fits, put_none, put_one}
 use Rattle.tables.proofs.listing.put_place.Goals as goal
 

@@ -1,5 +1,4 @@
 use mathlib.Core.Path.{refl}
-use borrow.Author.Rules.{rules}
 use Rattle.tables.proofs.Listed.{rows_added}
 use Rattle.tables.proofs.listing.put_places.Goals as goal
 

@@ -1,4 +1,3 @@
-use borrow.Author.Rules.{rules}
 use Rattle.tables.proofs.listing.uses_region.Goals as goal
 
 pub returns-then-write : goal.returns-then-write

@@ -1,9 +1,7 @@
 use Prim.Native.Nat.{◌-◌, ◌≤◌}
 use mathlib.Core.Path.{◌≡◌}
 use mathlib.Core.List.{◌++◌}
-use borrow.Author.Rules.{rules}
-use lib.ListN.{length, take, drop, length-set}
-use Rattle.tables.proofs.Padded.{copy_more, copy_done}
+use lib.ListN.{length, take, drop}
 use Rattle.tables.proofs.parts.copy.Given as goal
 
 abbrev pub invariant-loop-k : goal.invariant-loop-k

@@ -1,5 +1,4 @@
 use native.Mathlib.Omega.{arith}
-use borrow.Author.Rules.{rules}
 use Rattle.tables.proofs.Padded.{part_added}
 use Rattle.tables.proofs.parts.put_part.Goals as goal
 

@@ -1,8 +1,6 @@
 use Prim.Native.Nat.{◌+◌, ◌-◌, ◌≤◌}
 use mathlib.Core.Path.{◌≡◌}
-use borrow.Author.Rules.{rules}
 use Rattle.finite.specs.Below.{any_below}
-use Rattle.finite.proofs.Below.{any_none, any_more, any_done}
 use Rattle.tables.specs.Targets.{is_marked}
 use Rattle.tables.proofs.targets.any_marked.Given as goal
 

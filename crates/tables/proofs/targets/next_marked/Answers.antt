@@ -1,7 +1,5 @@
-use Prim.Native.Nat.{◌-◌}
 use native.Mathlib.Omega.{arith}
 use borrow.Author.Rules.{rules}
-use Rattle.tables.specs.Targets.{Passed}
 use Rattle.tables.proofs.Targeted.{passed_one}
 use Rattle.tables.proofs.targets.next_marked.Goals as goal
 

@@ -1,5 +1,4 @@
 use native.Mathlib.Omega.{arith}
-use borrow.Author.Rules.{rules}
 use Rattle.tables.proofs.Targeted.{from_fits, from_put}
 use Rattle.tables.proofs.targets.put_from.Goals as goal
 

@@ -1,9 +1,7 @@
-use Prim.Native.Nat.{◌+◌, ◌-◌, ◌≤◌, ◌<◌}
-use mathlib.Core.Path.{◌≡◌}
+use Prim.Native.Nat.{◌+◌}
 use native.Mathlib.Omega.{arith}
 use borrow.Author.Rules.{rules}
-use lib.ListN.{get_or}
-use Rattle.tables.proofs.Targeted.{RowTo, row_none, row_fits, row_few, row_more, row_skip, row_done}
+use Rattle.tables.proofs.Targeted.{row_none, row_fits, row_few, row_more, row_skip, row_done}
 use Rattle.tables.proofs.targets.put_row.Goals as goal
 
 pub loop-b-init : goal.loop-b-init

@@ -1,9 +1,7 @@
-use Prim.Native.Nat.{◌+◌, ◌-◌, ◌≤◌, ◌<◌}
+use Prim.Native.Nat.{◌-◌, ◌≤◌, ◌<◌}
 use mathlib.Core.Path.{◌≡◌}
-use native.Mathlib.Omega.{arith}
-use borrow.Author.Rules.{rules}
 use lib.ListN.{get_or}
-use Rattle.tables.proofs.Targeted.{RowTo, row_none, row_fits, row_few, row_more, row_skip, row_done}
+use Rattle.tables.proofs.Targeted.{RowTo}
 use Rattle.tables.proofs.targets.put_row.Given as goal
 
 abbrev pub invariant-loop-b : goal.invariant-loop-b

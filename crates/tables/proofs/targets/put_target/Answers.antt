@@ -1,5 +1,4 @@
 use mathlib.Core.Path.{refl, ◌∙◌}
-use borrow.Author.Rules.{rules}
 use Rattle.finite.proofs.Puts.{added_one}
 use Rattle.tables.proofs.targets.put_target.Goals as goal
 

@@ -1,6 +1,4 @@
-use Prim.Native.Nat.{◌-◌}
 use borrow.Author.Rules.{rules}
-use Rattle.tables.specs.Targets.{Passed}
 use Rattle.tables.proofs.Targeted.{passed_none, passed_block}
 use Rattle.tables.proofs.targets.skip_blocks.Goals as goal
 

@@ -1,7 +1,5 @@
 use Prim.Native.Nat.{◌-◌}
-use borrow.Author.Rules.{rules}
 use Rattle.tables.specs.Targets.{Passed}
-use Rattle.tables.proofs.Targeted.{passed_none, passed_block}
 use Rattle.tables.proofs.targets.skip_blocks.Given as goal
 
 abbrev pub invariant-loop-at : goal.invariant-loop-at

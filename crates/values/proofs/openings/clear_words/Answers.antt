@@ -1,10 +1,7 @@
-use Prim.Native.Nat.{◌-◌, ◌≤◌}
-use mathlib.Core.Path.{◌≡◌}
 use native.Mathlib.Omega.{arith}
 use borrow.Author.Rules.{rules}
-use lib.ListN.{length, length-set}
-use Rattle.finite.specs.Update.{replaced}
-use Rattle.values.proofs.Opening.{words_below, words_none, words_more, words_done}
+use lib.ListN.{length-set}
+use Rattle.values.proofs.Opening.{words_none, words_more, words_done}
 use Rattle.values.proofs.openings.clear_words.Goals as goal
 
 pub loop-a-init : goal.loop-a-init

@@ -1,10 +1,8 @@
 use Prim.Native.Nat.{◌-◌, ◌≤◌}
 use mathlib.Core.Path.{◌≡◌}
-use native.Mathlib.Omega.{arith}
-use borrow.Author.Rules.{rules}
-use lib.ListN.{length, length-set}
+use lib.ListN.{length}
 use Rattle.finite.specs.Update.{replaced}
-use Rattle.values.proofs.Opening.{words_below, words_none, words_more, words_done}
+use Rattle.values.proofs.Opening.{words_below}
 use Rattle.values.proofs.openings.clear_words.Given as goal
 
 abbrev pub invariant-loop-a : goal.invariant-loop-a

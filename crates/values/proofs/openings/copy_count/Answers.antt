@@ -1,7 +1,6 @@
 use Prim.Native.Nat.{◌*◌, ◌≤◌}
 use mathlib.Core.Path.{ap₂, ◌∙◌}
 use native.Mathlib.Omega.{arith}
-use borrow.Author.Rules.{rules}
 use Rattle.body.specs.Body.{first_slot}
 use Rattle.plan.specs.Layout.{body_of}
 use Rattle.graph.proofs.Small.{plan_fits}

@@ -1,14 +1,10 @@
 use Prim.Native.Nat.{◌-◌, ◌≤◌}
-use mathlib.Core.Path.{◌∙◌, ◌≡◌}
-use native.Mathlib.Omega.{arith}
-use borrow.Author.Rules.{rules}
+use mathlib.Core.Path.{◌≡◌}
 use lib.Dec.{ltb}
-use lib.ListN.{length-set, length}
+use lib.ListN.{length}
 use Rattle.finite.specs.Update.{replaced}
 use Rattle.body.specs.Places.{initial}
 use Rattle.plan.specs.Layout.{body_of}
-use Rattle.values.proofs.Plans.{facts, start_room}
-use Rattle.values.proofs.Opening.{filled_none, filled_more, filled_done, copy_starts}
 use Rattle.values.proofs.openings.set_copies.Given as goal
 
 abbrev pub invariant-loop-x : goal.invariant-loop-x

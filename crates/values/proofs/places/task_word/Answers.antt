@@ -1,17 +1,15 @@
-use Prim.Native.Nat.{ℕ, ◌-◌, ◌≤◌}
+use Prim.Native.Nat.{ℕ}
 use mathlib.Core.Bool.{Bool, cond}
-use mathlib.Core.Path.{◌≡◌, refl, sym, ◌∙◌, ap}
+use mathlib.Core.Path.{refl, sym, ◌∙◌, ap}
 use native.Mathlib.Omega.{arith}
 use borrow.Author.Rules.{rules}
-use lib.ListN.{length, get_or, take, length-set}
+use lib.ListN.{get_or, length-set}
 use lib.Seq.{length-take-le}
-use Rattle.finite.specs.Lists.{gather}
 use Rattle.finite.proofs.Lists.{gather_none, gather_more, gather_done}
 use Rattle.finite.proofs.Collect.{map_gather}
 use Rattle.kernels.specs.Kernels.{kernel_word}
-use Rattle.plan.specs.Limits.{max_accesses}
 use Rattle.plan.specs.Layout.{kernel_of, constant_of, accesses_of, access_region, reads, region_at, is_read}
-use Rattle.graph.proofs.Accesses.{Passed, region_within}
+use Rattle.graph.proofs.Accesses.{region_within}
 use Rattle.values.proofs.places.task_word.Goals as goal
 
 pub loop-k-init : goal.loop-k-init

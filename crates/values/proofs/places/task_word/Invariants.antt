@@ -1,17 +1,10 @@
-use Prim.Native.Nat.{ℕ, ◌-◌, ◌≤◌}
-use mathlib.Core.Bool.{Bool, cond}
-use mathlib.Core.Path.{◌≡◌, refl, sym, ◌∙◌, ap}
-use native.Mathlib.Omega.{arith}
-use borrow.Author.Rules.{rules}
-use lib.ListN.{length, get_or, take, length-set}
-use lib.Seq.{length-take-le}
+use Prim.Native.Nat.{◌-◌, ◌≤◌}
+use mathlib.Core.Path.{◌≡◌}
+use lib.ListN.{length, get_or, take}
 use Rattle.finite.specs.Lists.{gather}
-use Rattle.finite.proofs.Lists.{gather_none, gather_more, gather_done}
-use Rattle.finite.proofs.Collect.{map_gather}
-use Rattle.kernels.specs.Kernels.{kernel_word}
 use Rattle.plan.specs.Limits.{max_accesses}
-use Rattle.plan.specs.Layout.{kernel_of, constant_of, accesses_of, access_region, reads, region_at, is_read}
-use Rattle.graph.proofs.Accesses.{Passed, region_within}
+use Rattle.plan.specs.Layout.{region_at, is_read}
+use Rattle.graph.proofs.Accesses.{Passed}
 use Rattle.values.proofs.places.task_word.Given as goal
 
 abbrev pub invariant-loop-k : goal.invariant-loop-k

@@ -1,12 +1,9 @@
-use Prim.Native.Nat.{◌-◌, ◌<◌}
-use mathlib.Core.Path.{◌∙◌, ap, ◌≡◌}
-use native.Mathlib.Omega.{arith}
-use borrow.Author.Rules.{rules}
+use Prim.Native.Nat.{◌-◌}
+use mathlib.Core.Path.{◌≡◌}
 use lib.ListN.{length}
 use Rattle.finite.specs.Update.{replaced}
-use Rattle.plan.specs.Layout.{access_region, writes, accesses_of, region_at, is_written}
-use Rattle.graph.proofs.Accesses.{Passed, named, region_within}
-use Rattle.values.proofs.Writing.{written_none, written_more, written_done}
+use Rattle.plan.specs.Layout.{is_written}
+use Rattle.graph.proofs.Accesses.{Passed, named}
 use Rattle.values.proofs.places.write_task.Given as goal
 
 abbrev pub invariant-loop-k : goal.invariant-loop-k

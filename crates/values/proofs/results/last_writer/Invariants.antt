@@ -1,11 +1,8 @@
 use Prim.Native.Nat.{◌-◌, ◌≤◌}
 use mathlib.Core.Path.{◌≡◌}
-use native.Mathlib.Omega.{arith}
-use borrow.Author.Rules.{rules}
 use Rattle.body.specs.Transfers.{last_before}
-use Rattle.plan.specs.Layout.{tasks_of, body_of}
+use Rattle.plan.specs.Layout.{body_of}
 use Rattle.values.specs.Items.{task_or128}
-use Rattle.values.proofs.Resulting.{last_none, last_more, last_done}
 use Rattle.values.proofs.results.last_writer.Given as goal
 
 abbrev pub invariant-loop-i : goal.invariant-loop-i

@@ -1,16 +1,11 @@
 use Prim.Native.Nat.{◌-◌, ◌≤◌}
 use mathlib.Core.Bool.{◌&&◌}
-use mathlib.Core.Path.{◌∙◌, ap, ap₂, ◌≡◌}
-use native.Mathlib.Omega.{arith}
-use borrow.Author.Rules.{rules}
+use mathlib.Core.Path.{◌≡◌}
 use lib.Dec.{eqb}
 use Rattle.finite.specs.Below.{any_below}
-use Rattle.finite.proofs.Below.{any_none, any_more}
-use Rattle.plan.specs.Layout.{access_region, writes, region_at, is_written}
+use Rattle.plan.specs.Layout.{region_at, is_written}
 use Rattle.plan.specs.Limits.{max_accesses}
 use Rattle.graph.proofs.Accesses.{Passed}
-use Rattle.values.proofs.Plans.{task_room}
-use Rattle.values.proofs.Resulting.{written_done}
 use Rattle.values.proofs.results.task_writes.Given as goal
 
 abbrev pub invariant-loop-k : goal.invariant-loop-k

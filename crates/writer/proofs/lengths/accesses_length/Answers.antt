@@ -1,11 +1,11 @@
-use Prim.Native.Nat.{ℕ, ◌-◌, ◌≤◌}
+use Prim.Native.Nat.{ℕ}
 use mathlib.Core.Path.{◌∙◌, ap}
 use native.Mathlib.Omega.{arith}
 use borrow.Author.Rules.{rules}
 use lib.ListN.{length}
 use Rattle.plan.specs.Layout.{accesses_of}
 use Rattle.writer.specs.Parts.{access_line, access_line_at}
-use Rattle.writer.proofs.Sizes.{Summed, sum_none, sum_more, sum_done}
+use Rattle.writer.proofs.Sizes.{sum_none, sum_more, sum_done}
 use Rattle.writer.proofs.lengths.accesses_length.Goals as goal
 
 pub loop-a-init : goal.loop-a-init

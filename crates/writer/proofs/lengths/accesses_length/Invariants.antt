@@ -1,11 +1,6 @@
-use Prim.Native.Nat.{ℕ, ◌-◌, ◌≤◌}
-use mathlib.Core.Path.{◌∙◌, ap}
-use native.Mathlib.Omega.{arith}
-use borrow.Author.Rules.{rules}
-use lib.ListN.{length}
-use Rattle.plan.specs.Layout.{accesses_of}
-use Rattle.writer.specs.Parts.{access_line, access_line_at}
-use Rattle.writer.proofs.Sizes.{Summed, sum_none, sum_more, sum_done}
+use Prim.Native.Nat.{◌-◌, ◌≤◌}
+use Rattle.writer.specs.Parts.{access_line_at}
+use Rattle.writer.proofs.Sizes.{Summed}
 use Rattle.writer.proofs.lengths.accesses_length.Given as goal
 
 abbrev pub invariant-loop-a : goal.invariant-loop-a

@@ -1,9 +1,8 @@
-use Prim.Native.Nat.{◌-◌, ◌≤◌}
 use native.Mathlib.Omega.{arith}
 use borrow.Author.Rules.{rules}
 use Rattle.plan.specs.Layout.{regions_of}
 use Rattle.writer.specs.Parts.{start_line}
-use Rattle.writer.proofs.Sizes.{Summed, sum_none, sum_more, sum_done}
+use Rattle.writer.proofs.Sizes.{sum_none, sum_more, sum_done}
 use Rattle.writer.proofs.lengths.starts_length.Goals as goal
 
 pub loop-g-init : goal.loop-g-init

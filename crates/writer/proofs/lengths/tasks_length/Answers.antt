@@ -1,11 +1,11 @@
-use Prim.Native.Nat.{◌-◌, ◌≤◌, ◌<◌}
+use Prim.Native.Nat.{◌<◌}
 use native.Mathlib.Omega.{arith}
 use borrow.Author.Rules.{rules}
 use Rattle.plan.specs.Layout.{tasks_of}
 use Rattle.plan.proofs.Facts.{formed}
 use Rattle.graph.proofs.Small.{form_words}
 use Rattle.writer.specs.Parts.{task_lines}
-use Rattle.writer.proofs.Sizes.{Summed, sum_none, sum_more, sum_done}
+use Rattle.writer.proofs.Sizes.{sum_none, sum_more, sum_done}
 use Rattle.writer.proofs.lengths.tasks_length.Goals as goal
 
 pub loop-i-init : goal.loop-i-init

@@ -1,4 +1,3 @@
-use borrow.Author.Rules.{rules}
 use Rattle.finite.proofs.Puts.{added_append, room_first, room_rest}
 use Rattle.writer.specs.Parts.{access_line}
 use Rattle.writer.proofs.lines.put_access.Goals as goal

@@ -1,8 +1,5 @@
-use Prim.Native.Nat.{◌-◌, ◌≤◌}
 use mathlib.Core.Path.{sym, ap}
 use borrow.Author.Rules.{rules}
-use Rattle.finite.specs.Lists.{collect}
-use Rattle.finite.specs.Put.{Added}
 use Rattle.finite.proofs.Puts.{added_same, room_same, collect_none, collect_fits, collect_more, collect_done}
 use Rattle.writer.specs.Parts.{access_line, access_line_at}
 use Rattle.writer.proofs.lines.put_accesses.Goals as goal

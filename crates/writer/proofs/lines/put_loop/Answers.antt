@@ -1,4 +1,3 @@
-use borrow.Author.Rules.{rules}
 use Rattle.writer.specs.Parts.{loop_line}
 use Rattle.writer.proofs.lines.put_loop.Goals as goal
 

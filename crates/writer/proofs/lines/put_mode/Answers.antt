@@ -1,5 +1,4 @@
 use mathlib.Core.Path.{sym, ap}
-use borrow.Author.Rules.{rules}
 use Rattle.finite.proofs.Puts.{added_same, room_same}
 use Rattle.writer.specs.Parts.{mode_text}
 use Rattle.writer.proofs.Parts.{mode_other}

@@ -1,6 +1,5 @@
 use mathlib.Core.Path.{◌≡◌, sym, ◌∙◌, ap}
 use mathlib.Core.List.{◌++◌}
-use borrow.Author.Rules.{rules}
 use Rattle.finite.specs.Put.{RoomAt}
 use Rattle.finite.proofs.Puts.{added_none, added_append, added_same, room_first, room_rest, room_same}
 use Rattle.text.specs.Ascii.{ascii}

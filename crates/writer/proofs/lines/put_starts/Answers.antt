@@ -1,7 +1,4 @@
-use Prim.Native.Nat.{◌-◌, ◌≤◌}
 use borrow.Author.Rules.{rules}
-use Rattle.finite.specs.Lists.{collect}
-use Rattle.finite.specs.Put.{Added}
 use Rattle.finite.proofs.Puts.{collect_none, collect_fits, collect_more, collect_done}
 use Rattle.writer.specs.Parts.{start_line}
 use Rattle.writer.proofs.lines.put_starts.Goals as goal

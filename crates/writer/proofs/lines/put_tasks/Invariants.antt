@@ -1,12 +1,6 @@
-use Prim.Native.Nat.{◌-◌, ◌≤◌, ◌<◌}
-use native.Mathlib.Omega.{arith}
-use borrow.Author.Rules.{rules}
+use Prim.Native.Nat.{◌-◌, ◌≤◌}
 use Rattle.finite.specs.Lists.{collect}
 use Rattle.finite.specs.Put.{Added}
-use Rattle.finite.proofs.Puts.{collect_none, collect_fits, collect_more, collect_done}
-use Rattle.plan.specs.Layout.{tasks_of}
-use Rattle.plan.proofs.Facts.{formed}
-use Rattle.graph.proofs.Small.{form_words}
 use Rattle.writer.specs.Parts.{task_lines}
 use Rattle.writer.proofs.lines.put_tasks.Given as goal
 

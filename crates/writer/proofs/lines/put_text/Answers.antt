@@ -18,12 +18,11 @@ put_starts-starts-requires c =
     )
 
 pub put_tasks-requires : goal.put_tasks-requires
-put_tasks-requires c =
-    (
-      c.requires.0,
-      c.requires.1,
-      room_rest c.put_starts-starts.ensures (room_rest c.put_loop-head.ensures (room_same (text_parts _) (room_start c.requires.2))),
-    )
+put_tasks-requires c = (
+  c.requires.0,
+  c.requires.1,
+  room_rest c.put_starts-starts.ensures (room_rest c.put_loop-head.ensures (room_same (text_parts _) (room_start c.requires.2))),
+)
 
 pub returns : goal.returns
 returns c =

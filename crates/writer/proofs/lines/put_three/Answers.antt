@@ -1,4 +1,3 @@
-use borrow.Author.Rules.{rules}
 use Rattle.finite.proofs.Puts.{added_append, room_first, room_rest}
 use Rattle.writer.proofs.lines.put_three.Goals as goal
 
