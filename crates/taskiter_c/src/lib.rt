@@ -1,5 +1,5 @@
-// The runtime for C: what include/taskiter.h declares. Each function is the one of crate taskiter by
-// the same name, with the same contract.
+// The runtime for C: what include/taskiter.h declares. Each function is the one of the crate
+// taskiter by the same name, with the same contract.
 #![tactic(auto)]
 
 ghost use Rattle.std.specs.Prelude.{◌≡◌};
