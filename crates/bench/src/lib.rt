@@ -8,8 +8,7 @@ ghost use Rattle.plan.specs.Form.{in_form};
 use plan::layout::PLAN_WORDS;
 
 // Whether the slice has the words of a plan, and the first of them are in form.
-#[unsafe(no_mangle)]
-pub extern "C" fn bench_in_form(plan: &[u64]) -> bool
+pub fn bench_in_form(plan: &[u64]) -> bool
     ensures { result ≡ (leb plan_words (length plan.now) && in_form (take plan_words plan.now)) }
 {
     if plan.len() < PLAN_WORDS {

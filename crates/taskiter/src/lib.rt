@@ -45,8 +45,7 @@ use tables::make_tables;
 const FREED: usize = 641;
 
 // Reads a text into a lent plan.
-#[unsafe(no_mangle)]
-pub extern "C" fn taskiter_read(text: &[u8], plan: &mut [u64]) -> reader::Answer
+pub fn taskiter_read(text: &[u8], plan: &mut [u64]) -> reader::Answer
     ensures { Reads text.now plan.old result plan.new }
 {
     reader::read(text, plan)
@@ -54,8 +53,7 @@ pub extern "C" fn taskiter_read(text: &[u8], plan: &mut [u64]) -> reader::Answer
 
 // The items of a plan: a number for each in the lent table, and how many they are. The number is
 // rank × 512 + kind × 128 + task or region, and 8192 more for an item of a wrapped transfer.
-#[unsafe(no_mangle)]
-pub extern "C" fn taskiter_items(plan: &[u64], table: &mut [u16]) -> Number
+pub fn taskiter_items(plan: &[u64], table: &mut [u16]) -> Number
     ensures { ItemsAnswer plan.now table.old result table.new }
 {
     if table.len() < MAX_ITEMS {
@@ -69,8 +67,7 @@ pub extern "C" fn taskiter_items(plan: &[u64], table: &mut [u16]) -> Number
 }
 
 // The edges of a plan: from, to and distance of each in the lent list, and how many they are.
-#[unsafe(no_mangle)]
-pub extern "C" fn taskiter_edges(plan: &[u64], list: &mut [u32]) -> Number
+pub fn taskiter_edges(plan: &[u64], list: &mut [u32]) -> Number
     ensures { EdgesAnswer plan.now list.old result list.new }
 {
     let mut table = [0u16; MAX_ITEMS];
@@ -85,8 +82,7 @@ pub extern "C" fn taskiter_edges(plan: &[u64], list: &mut [u32]) -> Number
 }
 
 // The number of steps from an opening to the end.
-#[unsafe(no_mangle)]
-pub extern "C" fn taskiter_total(plan: &[u64]) -> Number
+pub fn taskiter_total(plan: &[u64]) -> Number
     ensures { TotalAnswer plan.now result }
 {
     let mut table = [0u16; MAX_ITEMS];
@@ -101,24 +97,21 @@ pub extern "C" fn taskiter_total(plan: &[u64]) -> Number
 }
 
 // Writes a lent plan into a lent text; the number is the text's length.
-#[unsafe(no_mangle)]
-pub extern "C" fn taskiter_write(plan: &[u64], text: &mut [u8]) -> Number
+pub fn taskiter_write(plan: &[u64], text: &mut [u8]) -> Number
     ensures { WriteAnswer plan.now text.old result text.new }
 {
     writer::write(plan, text)
 }
 
 // The version of this interface: TASKITER_VERSION of the header.
-#[unsafe(no_mangle)]
-pub extern "C" fn taskiter_version() -> u64
+pub fn taskiter_version() -> u64
     ensures { result ≡ 6 }
 {
     6
 }
 
 // Opens a lent state for a plan; answers the refusal, 0 if there is none.
-#[unsafe(no_mangle)]
-pub extern "C" fn taskiter_open(plan: &[u64], counts: &mut [Count], values: &mut [u64]) -> u64
+pub fn taskiter_open(plan: &[u64], counts: &mut [Count], values: &mut [u64]) -> u64
     ensures { told_opening result counts.new values.new ≡ open_of plan.now counts.old values.old }
 {
     if is_short(plan.len(), counts.len(), values.len()) {
@@ -158,8 +151,7 @@ fn take_step(
 }
 
 // Starts the next pass of an item: it reads and computes its word, which is answered and held.
-#[unsafe(no_mangle)]
-pub extern "C" fn taskiter_start(
+pub fn taskiter_start(
     plan: &[u64],
     counts: &mut [Count],
     values: &mut [u64],
@@ -176,8 +168,7 @@ pub extern "C" fn taskiter_start(
 // Finishes the pass of an item that runs: the held word goes to the places that the item writes,
 // and is answered. The waits that the finish meets are taken off the numbers, and its own are
 // counted.
-#[unsafe(no_mangle)]
-pub extern "C" fn taskiter_finish(
+pub fn taskiter_finish(
     plan: &[u64],
     counts: &mut [Count],
     values: &mut [u64],
@@ -192,8 +183,7 @@ pub extern "C" fn taskiter_finish(
 }
 
 // The result of a region once the loop is complete.
-#[unsafe(no_mangle)]
-pub extern "C" fn taskiter_result(
+pub fn taskiter_result(
     plan: &[u64],
     counts: &[Count],
     values: &[u64],
@@ -221,8 +211,7 @@ pub extern "C" fn taskiter_result(
 
 // The items whose start is accepted now: their numbers, rising, in the lent slice, and how many
 // they are.
-#[unsafe(no_mangle)]
-pub extern "C" fn taskiter_ready(
+pub fn taskiter_ready(
     plan: &[u64],
     counts: &[Count],
     values: &[u64],
@@ -246,8 +235,7 @@ pub extern "C" fn taskiter_ready(
 }
 
 // Fills the tables of a plan in a lent slice, for steps by them; the number is that of its items.
-#[unsafe(no_mangle)]
-pub extern "C" fn taskiter_prepare(plan: &[u64], tables: &mut [u16]) -> Number
+pub fn taskiter_prepare(plan: &[u64], tables: &mut [u16]) -> Number
     ensures { PrepareAnswer plan.now tables.old result tables.new }
 {
     let mut table = [0u16; MAX_ITEMS];
@@ -263,8 +251,7 @@ pub extern "C" fn taskiter_prepare(plan: &[u64], tables: &mut [u16]) -> Number
 }
 
 // Starts the next pass of an item by the tables: it looks at the words of this item alone.
-#[unsafe(no_mangle)]
-pub extern "C" fn taskiter_start_prepared(
+pub fn taskiter_start_prepared(
     plan: &[u64],
     tables: &[u16],
     counts: &mut [Count],
@@ -286,8 +273,7 @@ pub extern "C" fn taskiter_start_prepared(
 }
 
 // Finishes the pass of an item that runs by the tables, and lists the items that this makes ready.
-#[unsafe(no_mangle)]
-pub extern "C" fn taskiter_finish_freeing(
+pub fn taskiter_finish_freeing(
     plan: &[u64],
     tables: &[u16],
     counts: &mut [Count],
@@ -312,8 +298,7 @@ pub extern "C" fn taskiter_finish_freeing(
 }
 
 // As `taskiter_finish_freeing`, with no list.
-#[unsafe(no_mangle)]
-pub extern "C" fn taskiter_finish_prepared(
+pub fn taskiter_finish_prepared(
     plan: &[u64],
     tables: &[u16],
     counts: &mut [Count],
@@ -341,8 +326,7 @@ fn play_one(plan: &[u64], counts: &mut [Count], values: &mut [u64], word: u64) -
 
 // Plays a list of calls, each on the state that the one before left: two words of the answers for
 // each, its refusal and its word. Answers 11 where a slice is too short, else 0.
-#[unsafe(no_mangle)]
-pub extern "C" fn taskiter_play(
+pub fn taskiter_play(
     plan: &[u64],
     counts: &mut [Count],
     values: &mut [u64],
@@ -367,8 +351,7 @@ pub extern "C" fn taskiter_play(
 
 // Opens a lent state for a plan and takes the steps of a journal, one a line. The number is 1 where
 // the loop is then complete, else 0; where a line is refused, the line.
-#[unsafe(no_mangle)]
-pub extern "C" fn taskiter_check(
+pub fn taskiter_check(
     plan: &[u64],
     counts: &mut [Count],
     values: &mut [u64],
@@ -391,8 +374,7 @@ pub extern "C" fn taskiter_check(
 }
 
 // As `taskiter_check`, going on from the lent state instead of opening it.
-#[unsafe(no_mangle)]
-pub extern "C" fn taskiter_check_more(
+pub fn taskiter_check_more(
     plan: &[u64],
     counts: &mut [Count],
     values: &mut [u64],
