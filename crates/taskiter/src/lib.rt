@@ -151,12 +151,7 @@ fn take_step(
 }
 
 // Starts the next pass of an item: it reads and computes its word, which is answered and held.
-pub fn taskiter_start(
-    plan: &[u64],
-    counts: &mut [Count],
-    values: &mut [u64],
-    item: u64,
-) -> Answer
+pub fn taskiter_start(plan: &[u64], counts: &mut [Count], values: &mut [u64], item: u64) -> Answer
     ensures { told result counts.new values.new ≡ start_of plan.now counts.old values.old item }
 {
     if is_short(plan.len(), counts.len(), values.len()) {
@@ -168,12 +163,7 @@ pub fn taskiter_start(
 // Finishes the pass of an item that runs: the held word goes to the places that the item writes,
 // and is answered. The waits that the finish meets are taken off the numbers, and its own are
 // counted.
-pub fn taskiter_finish(
-    plan: &[u64],
-    counts: &mut [Count],
-    values: &mut [u64],
-    item: u64,
-) -> Answer
+pub fn taskiter_finish(plan: &[u64], counts: &mut [Count], values: &mut [u64], item: u64) -> Answer
     ensures { told result counts.new values.new ≡ finish_of plan.now counts.old values.old item }
 {
     if is_short(plan.len(), counts.len(), values.len()) {
@@ -183,12 +173,7 @@ pub fn taskiter_finish(
 }
 
 // The result of a region once the loop is complete.
-pub fn taskiter_result(
-    plan: &[u64],
-    counts: &[Count],
-    values: &[u64],
-    region: u64,
-) -> Answer
+pub fn taskiter_result(plan: &[u64], counts: &[Count], values: &[u64], region: u64) -> Answer
     ensures { told result counts.now values.now ≡ result_of plan.now counts.now values.now region }
 {
     if is_short(plan.len(), counts.len(), values.len()) {
@@ -211,12 +196,7 @@ pub fn taskiter_result(
 
 // The items whose start is accepted now: their numbers, rising, in the lent slice, and how many
 // they are.
-pub fn taskiter_ready(
-    plan: &[u64],
-    counts: &[Count],
-    values: &[u64],
-    items: &mut [u16],
-) -> Number
+pub fn taskiter_ready(plan: &[u64], counts: &[Count], values: &[u64], items: &mut [u16]) -> Number
     ensures { ReadyAnswer plan.now counts.now values.now items.old result items.new }
 {
     if is_short(plan.len(), counts.len(), values.len()) | (items.len() < MAX_ITEMS) {
