@@ -6,7 +6,7 @@
 
 A name of a definition, a lemma or a field with a dash or a capital inside is written with `_`.
 A lemma that would get the name of a definition has `_lem` behind it. Names of functions of src/
-stay. It runs on what `/opt/rattle/port/port.py` leaves.
+stay. It runs once, on what the script port.py of the kit leaves.
 """
 import collections
 import os
