@@ -1,6 +1,6 @@
 -- What a call answers behind its door, by the tests that are left: w, C and W are the words of the
 -- plan, the counts and the values.
-use Prim.Native.Nat.{ℕ, ◌+◌, ◌-◌, ◌*◌, ◌≤◌, ◌<◌}
+use Prim.Native.Nat.{ℕ, ◌+◌, ◌*◌, ◌≤◌, ◌<◌}
 use mathlib.Core.Path.{◌≡◌, refl, sym, ◌∙◌, ap}
 use mathlib.Core.Bool.{Bool, true, false, cond, not, ◌&&◌, ◌||◌}
 use mathlib.Core.Logic.{⊎_elim}
@@ -15,7 +15,7 @@ use Rattle.finite.specs.Below.{all_below, sum_below}
 use Rattle.finite.specs.Lists.{mem}
 use Rattle.finite.specs.Update.{replaced}
 use Rattle.finite.proofs.Tests.{and-true, or_cases}
-use Rattle.finite.proofs.Below.{all_of, sum_ext}
+use Rattle.finite.proofs.Below.{all_of}
 use Rattle.finite.proofs.Within.{within}
 use Rattle.unroll.specs.Sequential.{word_on}
 use Rattle.unroll.specs.AnyOrder.{all_steps}
@@ -26,18 +26,16 @@ use Rattle.body.specs.Places.{initial, system, result_from, result_of as region_
 use Rattle.body.proofs.WrappedCount.{all_steps_lem}
 use Rattle.plan.specs.Limits.{max_passes}
 use Rattle.plan.specs.Sizes.{count_words, value_words, first_finished, first_unmet, first_held}
-use Rattle.plan.specs.Layout.{plan_words, body_of, passes_of, regions_of}
-use Rattle.plan.specs.Code.{code_fewer}
+use Rattle.plan.specs.Layout.{plan_words, body_of, regions_of}
 use Rattle.graph.specs.Table.{Graph}
 use Rattle.graph.specs.Answers.{refusal_of, plan_body, is_item}
-use Rattle.graph.proofs.Lookup.{passes_most, own_passes_lem}
+use Rattle.graph.proofs.Lookup.{passes_most}
 use Rattle.steps.specs.State.{state_of, done_by, unmet_by}
 use Rattle.steps.specs.Answers.{Left, count_ok, is_complete, start_tests, finish_tests, formed_counts, formed_numbers, long_slices, call_refusal, refused}
 use Rattle.steps.specs.Answers.{started, start_of, finished, finished_counts, finish_of, shown, result_of, open_count, is_copy, is_slot, is_held, open_of}
 use Rattle.values.specs.Items.{Formed, Found}
 use Rattle.values.proofs.Plans.{plan_whole}
 use Rattle.values.proofs.Finding.{found_at, whole_plan}
-use Rattle.calls.specs.declared.Answer.{Answer}
 use Rattle.calls.specs.Told.{told}
 use Rattle.doors.specs.Doors.{Clear}
 use Rattle.doors.proofs.Counting.{complete_is, counts_below, counts_opened}
@@ -56,10 +54,6 @@ finish_apart : (w C U W : List ℕ) (a : ℕ) → finished_counts w C U a ≡ fi
 unfolding finished_counts
 finish_apart w C U W a = refl
 
--- an answer that refuses
-pub told_refused : (P C W : List ℕ) (n : ℕ) (r : Answer) {x : Left} → r ≡ record { refusal = n; word = 0 } → refused P C W n ≡ x → told r C W ≡ x
-told_refused P C W n r e h = ap (λ (a : Answer). told a C W) e ∙ h
-
 -- an item's start is counted and its word held
 module _ (w : List ℕ) (a code : ℕ) (F : Found w a code) (C W : List ℕ) where
   pub started_is : (word : ℕ) → word ≡ word_on (system (body_of w)) a (λ x. get_or W x 0) →
@@ -74,13 +68,9 @@ module _ (w table : List ℕ) (n : ℕ) (G : Graph w table n) where
   whole = plan_whole w graph_formed
 
   -- two steps for each of them
-  pub total_is : (passes : ℕ) → passes ≡ passes_of w → (steps : ℕ) → steps ≡ sum_below n (λ a. 2 * (passes - code_fewer (get_or table a 0))) → steps ≡ total_steps (body_of w)
+  pub total_is : (steps : ℕ) → steps ≡ sum_below n (λ a. 2 * item_passes (body_of w) a) → steps ≡ total_steps (body_of w)
   unfolding all_steps
-  total_is passes p steps e =
-      e
-      ∙ (sum_ext n (λ a. 2 * (passes - code_fewer (get_or table a 0))) (λ a. 2 * item_passes (body_of w) a)
-      (λ a l. ap (λ (k : ℕ). 2 * k) (own_passes_lem w table n G passes p a l (passes - code_fewer (get_or table a 0)) refl))
-      ∙ (ap (λ (m : ℕ). sum_below m (λ a. 2 * item_passes (body_of w) a)) G.count ∙ all_steps_lem (body_of w)))
+  total_is steps e = e ∙ (ap (λ (m : ℕ). sum_below m (λ a. 2 * item_passes (body_of w) a)) G.count ∙ all_steps_lem (body_of w))
 
   module _ (C W : List ℕ) (c : count_words ≤ length C) (v : value_words ≤ length W) where
     long : long_slices w C W ≡ true
@@ -93,10 +83,7 @@ module _ (w table : List ℕ) (n : ℕ) (G : Graph w table n) where
     unfolding open_of
     open_made D C' W' e d f = rw (long, whole, G.formed, counts_opened (body_of w) n G.count G.most C D C' e d, f)
 
-module _ (w C table : List ℕ) (n : ℕ) (K : Clear w C table n) (W : List ℕ) (v : value_words ≤ length W) where
-  abbrev G : Graph w table n
-  G = K.graph
-
+module _ (w C table : List ℕ) (n : ℕ) (G : Graph w table n) (K : Clear w C n) (W : List ℕ) (v : value_words ≤ length W) where
   formed_counts_lem : formed_counts w C W ≡ true
   formed_counts_lem =
       rw (whole w table n G) (all_of (λ a. count_ok (item_passes (body_of w) a) (state_of C W) a) (item_count (body_of w)) (λ a l. K.counts_ok_lem a (omega (arith, G.count))))
@@ -143,10 +130,7 @@ module _ (w C table : List ℕ) (n : ℕ) (K : Clear w C table n) (W : List ℕ)
     finish_tested = rw (call_is (is_item w item), item_is item, lt-ltb item n below, ← at)
 
     -- a start, by the passes that the item has, and has started and finished
-    module _ (passes own : ℕ) (p : passes ≡ passes_of w) (o : own ≡ passes - code_fewer (get_or table a 0)) where
-      has : own ≡ item_passes (body_of w) a
-      has = own_passes_lem w table n G passes p a item_below own o
-
+    module _ (own : ℕ) (has : own ≡ item_passes (body_of w) a) where
       pub start_done : own ≤ get_or C (first_finished + a) 0 → refused w C W 14 ≡ start_of w C W item
       start_done l = sym (start_tested ∙ rw (le-ltb (get_or C (first_finished + a) 0) (item_passes (body_of w) a) (omega (arith, has))))
 
@@ -188,9 +172,8 @@ module _ (w C table : List ℕ) (n : ℕ) (K : Clear w C table n) (W : List ℕ)
           (λ e. ltb-true d p (and-true (eqb s (d + 1)) (ltb d p) e).1)
           (or_cases (eqb s d) (eqb s (d + 1) && ltb d p) (and-true (leb d p) (eqb s d || (eqb s (d + 1) && ltb d p)) h).1)
 
-      pub finish_asks : Graph w table n × (a < n) × (count_words ≤ length C) × (done_by C a < max_passes)
+      pub finish_asks : (a < n) × (count_words ≤ length C) × (done_by C a < max_passes)
       finish_asks = (
-        G,
         item_below,
         K.room,
         omega (arith, started_one (get_or C a 0) (get_or C (first_finished + a) 0) (item_passes (body_of w) a) (K.counts_ok_lem a item_below) runs, passes_most w table n G),
@@ -200,14 +183,14 @@ module _ (w C table : List ℕ) (n : ℕ) (K : Clear w C table n) (W : List ℕ)
       write_asks code e = (found_at w table n G a code item_below e, v)
 
   -- a result
-  module _ (region : ℕ) (below : region < regions_of w) (passes : ℕ) (p : passes ≡ passes_of w) (ok : Bool)
-      (o : ok ≡ all_below n (λ a. eqb (get_or C (first_finished + a) 0) (passes - code_fewer (get_or table a 0)))) where
+  module _ (region : ℕ) (below : region < regions_of w) (ok : Bool)
+      (o : ok ≡ all_below n (λ a. eqb (get_or C (first_finished + a) 0) (item_passes (body_of w) a))) where
     result_tested : result_of w C W region ≡ cond ok (shown w C W region) (refused w C W 18)
     unfolding result_of
     result_tested = rw (call_is (ltb region (plan_body w).regions), whole w table n G, lt-ltb region (regions_of w) below, ← complete) (go _ ok)
       where
         complete : ok ≡ is_complete (body_of w) (state_of C W)
-        complete = o ∙ complete_is w table n G C W passes p
+        complete = o ∙ complete_is G C W
 
         go : (x : Left) (b : Bool) → cond (eqb (cond b 0 18) 0) x (refused w C W (cond b 0 18)) ≡ cond b x (refused w C W 18)
         go x true = refl

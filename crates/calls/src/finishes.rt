@@ -6,22 +6,22 @@ ghost use Rattle.body.specs.Places.{system};
 ghost use Rattle.plan.specs.Limits.{max_passes};
 ghost use Rattle.plan.specs.Sizes.{count_words, value_words, first_held};
 ghost use Rattle.plan.specs.Layout.{body_of};
-ghost use Rattle.graph.specs.Table.{Graph};
 ghost use Rattle.steps.specs.State.{done_by};
 ghost use Rattle.steps.specs.Answers.{finished_counts, finish_of};
 ghost use Rattle.values.specs.Items.{Found};
-ghost use Rattle.calls.specs.Told.{told};
+ghost use Rattle.calls.specs.Told.{answer_of, told};
 ghost use Rattle.doors.specs.Doors.{Clear};
 
-use crate::{Answer, no_word};
-use plan::numbers::{as_index, as_word, wide_16};
+use graph::items::Items;
+use plan::refusal::Refusal;
 use plan::state::{Count, FIRST_FINISHED, FIRST_HELD, FIRST_UNMET, MAX_ITEMS};
+use plan::words::Plan;
 use unmet::{count_unmet, lower_waits};
 use values::places::write_places;
 use walk::rows::mark_edges;
 
 // The word that item a holds goes to the places that it writes, and is answered.
-fn write_item(plan: &[u64], code: u64, a: usize, values: &mut [u64]) -> u64
+fn write_item(plan: &Plan, code: u64, a: usize, values: &mut [u64]) -> u64
     requires { Found plan.now a code × (value_words ≤ length values.old) }
     ensures { (result ≡ get_or values.old (first_held + a) 0)
         × (values.new ≡ replaced (λ x. mem x ((system (body_of plan.now)).writes a))
@@ -34,41 +34,36 @@ fn write_item(plan: &[u64], code: u64, a: usize, values: &mut [u64]) -> u64
 
 // Counts a finish of item a: one off the numbers of the items whose wait it meets, and its own
 // number afresh.
-fn count_finish(plan: &[u64], table: &[u16; MAX_ITEMS], n: usize, a: usize, counts: &mut [Count])
-    requires { Graph plan.now table.now n × (a < n) × (count_words ≤ length counts.old) × (done_by counts.old a < max_passes) }
-    ensures { counts.new ≡ finished_counts plan.now counts.old [] a }
+fn count_finish(items: &Items, a: usize, counts: &mut [Count])
+    requires { (a < length items.now.codes.now) × (count_words ≤ length counts.old) × (done_by counts.old a < max_passes) }
+    ensures { counts.new ≡ finished_counts items.now.plan.now counts.old [] a }
 {
     let mut from = [0u8; MAX_ITEMS];
     let mut into = [0u8; MAX_ITEMS];
-    mark_edges(plan, table, n, a, &mut from, &mut into);
-    lower_waits(plan, table, &from, n, a, counts);
+    mark_edges(items, a, &mut from, &mut into);
+    lower_waits(items, &from, a, counts);
     counts[FIRST_FINISHED + a] += 1;
-    counts[FIRST_UNMET + a] = count_unmet(plan, table, &into, n, a, counts);
+    counts[FIRST_UNMET + a] = count_unmet(items, &into, a, counts);
 }
 
 // Finishes the pass of an item that runs, or refuses it: 13 there is no such item, 17 it does not
 // run.
 pub fn finish_clear(
-    plan: &[u64],
-    table: &[u16; MAX_ITEMS],
-    n: usize,
+    items: &Items,
     counts: &mut [Count],
     values: &mut [u64],
     item: u64,
-) -> Answer
-    requires { Clear plan.now counts.old table.now n × (value_words ≤ length values.old) }
-    ensures { told result counts.new values.new ≡ finish_of plan.now counts.old values.old item }
+) -> Result<u64, Refusal>
+    requires { Clear items.now.plan.now counts.old (length items.now.codes.now) × (value_words ≤ length values.old) }
+    ensures { told (answer_of result) counts.new values.new ≡ finish_of items.now.plan.now counts.old values.old item }
 {
-    if as_word(n) <= item {
-        return no_word(13);
+    if items.codes.len() as u64 <= item {
+        return Err(Refusal::Unknown);
     }
-    let a = as_index(item);
+    let a = item as usize;
     if counts[a] == counts[FIRST_FINISHED + a] {
-        return no_word(17);
+        return Err(Refusal::NotRunning);
     }
-    count_finish(plan, table, n, a, counts);
-    Answer {
-        refusal: 0,
-        word: write_item(plan, wide_16(table[a]), a, values),
-    }
+    count_finish(items, a, counts);
+    Ok(write_item(items.plan, u64::from(items.codes[a]), a, values))
 }

@@ -2,8 +2,6 @@
 // and tests the rest.
 #![tactic(auto)]
 
-ghost use Rattle.std.specs.Prelude.{◌≡◌};
-
 pub mod drawing;
 pub mod finishes;
 pub mod openings;
@@ -11,6 +9,8 @@ pub mod ready;
 pub mod results;
 pub mod starts;
 pub mod totals;
+
+use plan::refusal::Refusal;
 
 // The answer of a step or result: refusal 0 and the word; or a refusal, and then the word is 0.
 #[repr(C)]
@@ -20,11 +20,19 @@ pub struct Answer {
     pub word: u64,
 }
 
-pub fn no_word(refusal: u64) -> Answer
-    ensures { result ≡ record { refusal = refusal; word = 0 } }
-{
-    Answer {
-        refusal: refusal,
-        word: 0,
+impl From<Result<u64, Refusal>> for Answer {
+    ghost use Rattle.std.specs.Prelude.{◌≡◌};
+    ghost use Rattle.calls.specs.Told.{answer_of};
+
+    ghost from_gives = { λ r answer. answer ≡ answer_of r };
+
+    fn from(r: Result<u64, Refusal>) -> Answer {
+        match r {
+            Ok(word) => Answer { refusal: 0, word },
+            Err(refusal) => Answer {
+                refusal: u64::from(refusal),
+                word: 0,
+            },
+        }
     }
 }

@@ -1,7 +1,7 @@
 // The calls, with as much of the lent slices as the script says, and what they answer, printed.
 use crate::numbers::{behind, edge_at, set_word, word_at};
 use calls::Answer;
-use plan::code::{item_kind, item_rank};
+use plan::code::{SEND, TASK, item_kind, item_rank};
 use plan::state::{Count, EDGE_WORDS, MAX_ITEMS};
 use std::io;
 
@@ -18,11 +18,6 @@ pub(crate) const TEXT_END: usize = 1703;
 
 pub(crate) fn print(rt: &impl Print, bytes: &[u8]) -> io::Result<()> {
     rt.write_all(bytes)
-}
-
-// Prints a space and a number.
-fn print_field(rt: &impl Print, n: u64) -> io::Result<()> {
-    print!(rt; " {n}")
 }
 
 fn print_two(rt: &impl Print, name: &str, a: u64, b: u64) -> io::Result<()> {
@@ -64,23 +59,16 @@ pub(crate) fn read_plan(rt: &impl Print, text: &[u8], room: &mut [u64]) -> io::R
     read_text(rt, text, end, room, lent)
 }
 
-fn wide(x: u16) -> u64 {
-    x as u64
-}
-
 fn code_at(codes: &[u16], at: usize) -> u64 {
-    if at < codes.len() {
-        return wide(codes[at]);
-    }
-    0
+    codes.get(at).copied().map_or(0, u64::from)
 }
 
 // Prints an item: its number, kind and rank.
 fn print_item(rt: &impl Print, item: u64, code: u64) -> io::Result<()> {
     let kind = item_kind(code);
     let name = match kind {
-        0 => "task",
-        1 => "send",
+        TASK => "task",
+        SEND => "send",
         _ => "receive",
     };
     let rank = item_rank(code);

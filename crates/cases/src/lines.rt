@@ -26,8 +26,8 @@ fn text_byte(byte: u8) -> u8 {
 // where the text ends then.
 fn put_digits(text: &mut [u8], at: usize, digits: &[u8]) -> usize {
     let mut to = at;
-    for i in 0..digits.len() {
-        set_byte(text, to, byte_at(digits, i));
+    for &digit in digits {
+        set_byte(text, to, digit);
         to = behind(to, 1);
     }
     to

@@ -4,10 +4,7 @@
 use plan::state::Count;
 
 pub(crate) fn byte_at(text: &[u8], at: usize) -> u8 {
-    if at < text.len() {
-        return text[at];
-    }
-    0
+    text.get(at).copied().unwrap_or(0)
 }
 
 pub(crate) fn set_byte(text: &mut [u8], at: usize, byte: u8) {
@@ -17,10 +14,7 @@ pub(crate) fn set_byte(text: &mut [u8], at: usize, byte: u8) {
 }
 
 pub(crate) fn word_at(room: &[u64], at: usize) -> u64 {
-    if at < room.len() {
-        return room[at];
-    }
-    0
+    room.get(at).copied().unwrap_or(0)
 }
 
 pub(crate) fn set_word(room: &mut [u64], at: usize, word: u64) {
@@ -36,15 +30,8 @@ pub(crate) fn fill(room: &mut [u64], end: usize, n: u64) {
     }
 }
 
-fn wide(x: u32) -> u64 {
-    x as u64
-}
-
 pub(crate) fn edge_at(edges: &[u32], at: usize) -> u64 {
-    if at < edges.len() {
-        return wide(edges[at]);
-    }
-    0
+    edges.get(at).copied().map_or(0, u64::from)
 }
 
 pub(crate) fn set_count(counts: &mut [Count], at: usize, count: Count) {
@@ -72,13 +59,9 @@ pub(crate) fn next_field(script: &[u8], at: usize) -> usize {
     behind(ahead(script, at, b' '), 1)
 }
 
-fn is_digit(byte: u8) -> bool {
-    (b'0' <= byte) & (byte <= b'9')
-}
-
 // A number with one more digit.
 fn with_digit(n: u64, byte: u8) -> u64 {
-    (n % 1844674407370955162 * 10).wrapping_add((byte % 48) as u64)
+    (n % 1844674407370955162 * 10).wrapping_add(u64::from(byte % 48))
 }
 
 // The number that the digits from `at` on write.
@@ -86,7 +69,7 @@ pub(crate) fn number_at(script: &[u8], at: usize) -> u64 {
     let mut n: u64 = 0;
     for i in at..script.len() {
         let byte = byte_at(script, i);
-        if !is_digit(byte) {
+        if !byte.is_ascii_digit() {
             return n;
         }
         n = with_digit(n, byte);

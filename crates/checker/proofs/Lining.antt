@@ -9,18 +9,19 @@ use native.Mathlib.Omega.{arith}
 use borrow.Author.Tests.{ne_eqb}
 use lib.Dec.{eqb}
 use lib.ListN.{length, get_or, take, drop, length-drop, drop_of_length-le}
-use lib.Seq.{get_or-take}
 use Rattle.finite.specs.Below.{all_below}
-use Rattle.plan.specs.Layout.{plan_words, passes_of}
+use Rattle.body.specs.Items.{item_passes}
+use Rattle.plan.specs.Layout.{plan_words, body_of}
 use Rattle.plan.specs.Sizes.{first_finished}
-use Rattle.plan.specs.Code.{code_fewer}
+use Rattle.plan.specs.Form.{in_form}
 use Rattle.text.specs.Records.{split, line_at}
 use Rattle.text.proofs.SplitLaws.{split_cons}
 use Rattle.text.proofs.LineLaws.{line_found, line_none}
 use Rattle.graph.specs.declared.Number.{Number}
 use Rattle.graph.specs.Table.{Graph}
 use Rattle.graph.specs.Answers.{plan_body}
-use Rattle.steps.specs.Answers.{Left}
+use Rattle.steps.specs.State.{state_of}
+use Rattle.steps.specs.Answers.{Left, is_complete}
 use Rattle.steps.specs.Calls.{Lent, lent}
 use Rattle.prepared.specs.Tables.{prepared_words, tables_of}
 use Rattle.prepared.specs.Calls.{call_in}
@@ -97,21 +98,23 @@ module _ (P T journal : List ℕ) (s₀ : Lent) where
 
   -- the plan has these items, and whether they are done is told
   pub lines_done : (C W : List ℕ) (at held : ℕ) → Reached (lent C W) at held → length journal ≤ at →
-      (table : List ℕ) (n : ℕ) → Graph (take plan_words P) table n → (passes : ℕ) → passes ≡ passes_of P → (b : Bool) →
-      b ≡ all_below n (λ a. eqb (get_or C (first_finished + a) 0) (passes - code_fewer (get_or table a 0))) → (x : ℕ) → x ≡ cond b 1 0 →
+      (w codes : List ℕ) (n : ℕ) → Graph w codes n → w ≡ take plan_words P → (b : Bool) →
+      b ≡ all_below n (λ a. eqb (get_or C (first_finished + a) 0) (item_passes (body_of w) a)) → (x : ℕ) → x ≡ cond b 1 0 →
       ◌≡◌ {A = Left} (record { refusal = 0; word = x; counts = C; values = W }) (check_from (call_in P T) P s₀ journal)
-  lines_done C W at held R h table n G passes p b e x f =
+  lines_done C W at held R h w codes n G p b e x f =
       ap (λ (y : ℕ). record { refusal = 0; word = y; counts = C; values = W })
-      (f ∙ ap (λ (y : Bool). cond y 1 0) (e ∙ complete_is (take plan_words P) table n G C W passes (p ∙ sym (get_or-take plan_words P 0 0 (omega arith)))))
+      (f ∙ ap (λ (y : Bool). cond y 1 0) (e ∙ (complete_is G C W ∙ ap (λ (v : List ℕ). is_complete (body_of v) (state_of C W)) p)))
       ∙ lines_over (lent C W) at held R h
 
 -- by tables just as long as the plan's
-pub lines_prepared : (P C W journal tables zeros : List ℕ) (r : Left) → r ≡ check_from (call_in P tables) P (lent C W) journal →
-    tables ≡ tables_of (plan_body P) ++ drop prepared_words zeros → length zeros ≤ prepared_words → r ≡ check_from (call_in P (tables_of (plan_body P))) P (lent C W) journal
-lines_prepared P C W journal tables zeros r e t l =
+pub lines_prepared : (P C W journal tables zeros w : List ℕ) (r : Left) → r ≡ check_from (call_in P tables) P (lent C W) journal → w ≡ take plan_words P →
+    tables ≡ tables_of (body_of w) ++ drop prepared_words zeros → length zeros ≤ prepared_words → r ≡ check_from (call_in P (tables_of (plan_body P))) P (lent C W) journal
+lines_prepared P C W journal tables zeros w r e p t l =
     e
     ∙ ap (λ (x : List ℕ). check_from (call_in P x) P (lent C W) journal)
-    (t ∙ (ap (λ (x : List ℕ). tables_of (plan_body P) ++ x) (drop_of_length-le zeros l) ∙ append-nil (tables_of (plan_body P))))
+    (t ∙ (ap (λ (x : List ℕ). tables_of (body_of w) ++ x) (drop_of_length-le zeros l) ∙ (append-nil (tables_of (body_of w)) ∙ ap (λ (v : List ℕ). tables_of (body_of v)) p)))
 
-pub lines_own : (P tables zeros table : List ℕ) (n : ℕ) → Graph (take plan_words P) table n → tables ≡ tables_of (plan_body P) ++ drop prepared_words zeros → Prepared P tables
-lines_own P tables zeros table n G t = rw t (prepares P (drop prepared_words zeros) G.formed)
+module _ (P w codes : List ℕ) (n : ℕ) (G : Graph w codes n) (p : w ≡ take plan_words P) where
+  pub lines_own : (tables zeros : List ℕ) → tables ≡ tables_of (body_of w) ++ drop prepared_words zeros → Prepared P tables
+  lines_own tables zeros t =
+      rw (t, p) (prepares P (drop prepared_words zeros) (subst (λ (v : List ℕ). in_form v ≡ true) p G.formed))

@@ -13,11 +13,11 @@ use Rattle.ranges.proofs.Clear.{start_is, finish_is, start_clear, finish_clear}
 
 module _ (P T C W : List ℕ) (a n : ℕ) where
   module _ (is : n ≡ start_refusal P T C (length W) a) where
-    pub startable : n ≡ 0 → Startable P T C W a
+    pub startable : n ≡ 0 → Startable T C W a
     startable z =
         let k = start_clear P T C (length W) a (sym is ∙ z) in
         record {
-          sized = record { long_plan_lem = k.long_plan_lem; long_tables = k.long_tables; long_counts = k.long_counts; long_values = k.long_values; below = k.below };
+          sized = record { long_tables = k.long_tables; long_counts = k.long_counts; long_values = k.long_values; below = k.below };
           row = record { few = k.few; below = k.places };
           small = k.small;
         }
@@ -29,11 +29,11 @@ module _ (P T C W : List ℕ) (a n : ℕ) where
     start_made z = sym (start_is P T C W a ∙ rw (← is, eq-eqb n 0 z))
 
   module _ (is : n ≡ finish_refusal P T C (length W) a) where
-    pub finishable : n ≡ 0 → Finishable P T C W a
+    pub finishable : n ≡ 0 → Finishable T C W a
     finishable z =
         let k = finish_clear P T C (length W) a (sym is ∙ z) in
         record {
-          sized = record { long_plan_lem = k.long_plan_lem; long_tables = k.long_tables; long_counts = k.long_counts; long_values = k.long_values; below = k.below };
+          sized = record { long_tables = k.long_tables; long_counts = k.long_counts; long_values = k.long_values; below = k.below };
           row = record { few = k.few; below = k.places };
           targets = record { ends = k.ends; few = k.target_few; below = k.targets };
           small = k.small;

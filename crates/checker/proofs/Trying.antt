@@ -7,7 +7,12 @@ use mathlib.Core.Option.{Option, none, some}
 use borrow.Author.Tests.{eq-eqb, ne_eqb}
 use lib.Dec.{eqb}
 use lib.ListN.{length, get_or, set, length-set}
+use Rattle.std.specs.Prelude.{Result, Ok, Err, is_err}
+use Rattle.std.proofs.lemmas.Bool.{false≢true}
 use Rattle.finite.proofs.Replaced.{length_replaced}
+use Rattle.plan.specs.declared.refusal.Refusal.{Refusal}
+use Rattle.plan.specs.Refusals.{refusal_number}
+use Rattle.plan.proofs.Refusals.{number_above}
 use Rattle.steps.specs.State.{first_held}
 use Rattle.steps.specs.Answers.{Left, refused}
 use Rattle.steps.specs.Calls.{Lent, lent, lent_by}
@@ -20,6 +25,15 @@ use Rattle.journal.specs.Lines.{Step, start, finish}
 use Rattle.journal.specs.Checking.{call_of, states}
 use Rattle.checker.specs.Tried.{SameRoom, Tried, line_refusal, line_leaves, Lined}
 use Rattle.checker.proofs.Stepping.{start_refused, start_made, finish_refused, finish_made}
+
+-- the number of what a test answers, by whether it refuses
+pub number_refused : {A : Type 0} (r : Result A Refusal) → is_err r ≡ true → refusal_number r ≡ 0 → ⊥
+number_refused (Ok x) h = absurd (false≢true h)
+number_refused (Err e) h = number_above e
+
+pub number_passed : {A : Type 0} (r : Result A Refusal) → is_err r ≡ false → refusal_number r ≡ 0
+number_passed (Ok x) h = refl
+number_passed (Err e) h = absurd (false≢true (sym h))
 
 -- by what the step's call answers
 module _ (P T : List ℕ) (s : Lent) (e : Step) (q : Left) (is : q ≡ call_in P T s (call_of e)) where

@@ -2,7 +2,6 @@
 -- the contracts of private functions: nothing here need be believed.
 use Rattle.std.specs.Prelude.{ℕ, ◌≤◌, ◌≡◌, Bool, cond, not, List, length}
 use Rattle.std.proofs.Math.Option.{Option, none, some}
-use Rattle.plan.specs.Layout.{plan_words}
 use Rattle.plan.specs.Sizes.{count_words, value_words}
 use Rattle.steps.specs.Calls.{Lent}
 use Rattle.prepared.specs.Calls.{call_in}
@@ -13,7 +12,6 @@ use Rattle.journal.specs.Checking.{holds, after}
 -- the tables are the plan's, and the slices long enough
 pub record Known (plan tables : List ℕ) (s : Lent) : Type 0 where
   pub own : Prepared plan tables
-  pub long_plan_lem : plan_words ≤ length plan
   pub long_counts : count_words ≤ length s.counts
   pub long_values : value_words ≤ length s.values
 

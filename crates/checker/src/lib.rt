@@ -3,10 +3,10 @@
 // journal/specs/Checking.antt.
 #![tactic(auto)]
 
-ghost use Rattle.std.specs.Prelude.{◌+◌, ◌^◌, ◌≤◌, ◌<◌, ◌≡◌, length, take};
+ghost use Rattle.std.specs.Prelude.{◌+◌, ◌^◌, ◌≤◌, ◌<◌, ◌≡◌, cond, not, length, take};
 ghost use Rattle.plan.specs.Layout.{plan_words};
 ghost use Rattle.plan.specs.Sizes.{count_words, value_words};
-ghost use Rattle.graph.specs.Table.{Graph};
+ghost use Rattle.plan.specs.Refusals.{number_of, refusal_number};
 ghost use Rattle.graph.specs.Answers.{plan_body};
 ghost use Rattle.steps.specs.Calls.{lent};
 ghost use Rattle.prepared.specs.Tables.{tables_of};
@@ -16,15 +16,16 @@ ghost use Rattle.journal.specs.Checking.{check_from, told_check};
 ghost use Rattle.entries.specs.Said.{said};
 ghost use Rattle.checker.specs.Tried.{Known, Tried, Lined};
 
-use doors::counts::are_complete;
+use doors::is_complete;
 use engine::finishes::finish_item;
 use engine::starts::{hold_word, item_word};
 use entries::{Entry, entry_of};
 use graph::Number;
-use plan::layout::{PLAN_WORDS, passes_of};
+use graph::items::Items;
 use plan::limits::MAX_ACCESSES;
-use plan::numbers::{as_index, number_if, one_if};
-use plan::state::{Count, MAX_ITEMS};
+use plan::refusal::Refusal;
+use plan::state::Count;
+use plan::words::Plan;
 use prepared::PREPARED;
 use ranges::{finish_refusal_known, start_refusal_known};
 use tables::make_tables;
@@ -35,7 +36,7 @@ const FREED: usize = 641;
 
 // Starts an item if the start is accepted and this is its word; else it changes nothing.
 fn try_start(
-    plan: &[u64],
+    plan: &Plan,
     tables: &[u16],
     counts: &mut [Count],
     values: &mut [u64],
@@ -46,10 +47,10 @@ fn try_start(
     ensures { Tried plan.now tables.now (lent counts.old values.old) (start item word) result
         (lent counts.new values.new) }
 {
-    if start_refusal_known(plan, tables, counts, item) != 0 {
+    if start_refusal_known(plan, tables, counts, item).is_err() {
         return false;
     }
-    let a = as_index(item);
+    let a = item as usize;
     let mut room = [0u64; MAX_ACCESSES];
     if item_word(plan, tables, a, values, &mut room) != word {
         return false;
@@ -60,7 +61,7 @@ fn try_start(
 
 // Finishes an item if the finish is accepted; else it changes nothing.
 fn try_finish(
-    plan: &[u64],
+    plan: &Plan,
     tables: &[u16],
     counts: &mut [Count],
     values: &mut [u64],
@@ -70,71 +71,80 @@ fn try_finish(
     ensures { Tried plan.now tables.now (lent counts.old values.old) (finish item) result
         (lent counts.new values.new) }
 {
-    if finish_refusal_known(plan, tables, counts, item) != 0 {
+    if finish_refusal_known(plan, tables, counts, item).is_err() {
         return false;
     }
     let mut freed = [0u16; FREED];
-    finish_item(plan, tables, as_index(item), counts, values, &mut freed);
+    finish_item(plan, tables, item as usize, counts, values, &mut freed);
     true
 }
 
-// Takes the step that a line says. Answers 20 where it says none, 21 where the step does not hold,
-// else 0.
+// What a line answers whose step holds or does not.
+fn if_holds(holds: bool) -> Result<(), Refusal>
+    ensures { refusal_number result ≡ cond (not holds) 21 0 }
+{
+    if holds { Ok(()) } else { Err(Refusal::NotHeld) }
+}
+
+// Takes the step that a line says, if it says one and the step holds.
 fn check_entry(
-    plan: &[u64],
+    plan: &Plan,
     tables: &[u16],
     counts: &mut [Count],
     values: &mut [u64],
-    entry: Entry,
-) -> u64
+    entry: Option<Entry>,
+) -> Result<(), Refusal>
     requires { Known plan.now tables.now (lent counts.old values.old) }
-    ensures { Lined plan.now tables.now (lent counts.old values.old) (said entry) result
+    ensures { Lined plan.now tables.now (lent counts.old values.old) (said entry) (refusal_number result)
         (lent counts.new values.new) }
 {
+    let Some(entry) = entry else {
+        return Err(Refusal::NoStep);
+    };
     match entry {
         Entry::Start { item, word } => {
-            number_if(!try_start(plan, tables, counts, values, item, word), 21)
+            if_holds(try_start(plan, tables, counts, values, item, word))
         }
-        Entry::Finish { item } => number_if(!try_finish(plan, tables, counts, values, item), 21),
-        Entry::Unreadable => 20,
+        Entry::Finish { item } => if_holds(try_finish(plan, tables, counts, values, item)),
     }
 }
 
 // A refusal at the line behind those that held.
-fn refused_behind(refusal: u64, held: u64) -> Number
+fn refused_behind(refusal: Refusal, held: u64) -> Number
     requires { held + 1 < 2 ^ 64 }
-    ensures { result ≡ record { refusal = refusal; number = held + 1 } }
+    ensures { result ≡ record { refusal = number_of refusal; number = held + 1 } }
 {
     Number {
-        refusal: refusal,
+        refusal: u64::from(refusal),
         number: held + 1,
     }
 }
 
-// Checks the lines of a journal, by the tables of the plan. `table` has the plan's n items.
+// Checks the lines of a journal, by the tables of the plan. `plan` is as it was lent, and `items`
+// has the words that a plan has.
 fn check_lines(
-    plan: &[u64],
-    table: &[u16; MAX_ITEMS],
-    n: usize,
+    plan: &Plan,
+    items: &Items,
     tables: &[u16],
     counts: &mut [Count],
     values: &mut [u64],
     journal: &[u8],
 ) -> Number
-    requires { Known plan.now tables.now (lent counts.old values.old) × Graph (take plan_words plan.now) table.now n }
+    requires { Known plan.now tables.now (lent counts.old values.old) × (items.now.plan.now ≡ take plan_words plan.now) }
     ensures { told_check result counts.new values.new
         ≡ check_from (call_in plan.now tables.now) plan.now (lent counts.old values.old) journal.now }
 {
     let mut at: usize = 0;
     let mut held: u64 = 0;
+    // an offset, not an index: it moves by the size of the line that is read there
     while at < journal.len() {
         let line = line_from(journal, at);
         let size = line.len();
         if size == 0 {
-            return refused_behind(20, held);
+            return refused_behind(Refusal::NoStep, held);
         }
-        let refusal = check_entry(plan, tables, counts, values, entry_of(&line[..size - 1]));
-        if refusal != 0 {
+        let entry = entry_of(&line[..size - 1]);
+        if let Err(refusal) = check_entry(plan, tables, counts, values, entry) {
             return refused_behind(refusal, held);
         }
         at += size;
@@ -142,25 +152,23 @@ fn check_lines(
     }
     Number {
         refusal: 0,
-        number: one_if(are_complete(counts, table, passes_of(plan), n)),
+        number: u64::from(is_complete(items, counts)),
     }
 }
 
-// Checks a journal from the lent state, by the tables of the plan, which are made here. `table` has
-// the plan's n items.
+// As `check_lines`, from the lent state, and the tables are made here.
 pub fn check_clear(
-    plan: &[u64],
-    table: &[u16; MAX_ITEMS],
-    n: usize,
+    plan: &Plan,
+    items: &Items,
     counts: &mut [Count],
     values: &mut [u64],
     journal: &[u8],
 ) -> Number
-    requires { (plan_words ≤ length plan.now) × Graph (take plan_words plan.now) table.now n × (count_words ≤ length counts.old) × (value_words ≤ length values.old) }
+    requires { (items.now.plan.now ≡ take plan_words plan.now) × (count_words ≤ length counts.old) × (value_words ≤ length values.old) }
     ensures { told_check result counts.new values.new
         ≡ check_from (call_in plan.now (tables_of (plan_body plan.now))) plan.now (lent counts.old values.old) journal.now }
 {
     let mut tables = [0u16; PREPARED];
-    make_tables(&plan[..PLAN_WORDS], table, n, &mut tables);
-    check_lines(plan, table, n, &tables, counts, values, journal)
+    make_tables(items, &mut tables);
+    check_lines(plan, items, &tables, counts, values, journal)
 }

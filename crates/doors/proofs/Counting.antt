@@ -27,7 +27,7 @@ use Rattle.plan.specs.Code.{code_fewer}
 use Rattle.plan.specs.Counts.{top_bit, surplus_of}
 use Rattle.plan.proofs.Surplus.{surplus_none}
 use Rattle.graph.specs.Table.{Graph}
-use Rattle.graph.proofs.Lookup.{own_passes_lem}
+use Rattle.graph.proofs.Lookup.{own_passes_lem, passes_most}
 use Rattle.steps.specs.State.{state_of, unmet_by}
 use Rattle.steps.specs.Answers.{count_ok, is_complete, is_count, open_count}
 
@@ -122,13 +122,32 @@ module _ (counts table : List ℕ) (passes : ℕ) where
       or_more 0 (λ a. eqb (get_or counts (first_finished + a) 0) (own_at a)) a missing left h
       (rw (e, o) (surplus_none (own_at a) (get_or counts (first_finished + a) 0) (omega arith) l))
 
--- of the items of a plan: the loop is complete
-pub complete_is : (w table : List ℕ) (n : ℕ) → Graph w table n → (counts values : List ℕ) (passes : ℕ) → passes ≡ passes_of w →
-    complete_to counts table passes n ≡ is_complete (body_of w) (state_of counts values)
-complete_is w table n G counts values passes p =
-    all_ext n (λ a. eqb (get_or counts (first_finished + a) 0) (passes - code_fewer (get_or table a 0))) (λ a. eqb (get_or counts (first_finished + a) 0) (item_passes (body_of w) a))
-    (λ a l. ap (eqb (get_or counts (first_finished + a) 0)) (own_passes_lem w table n G passes p a l (passes - code_fewer (get_or table a 0)) refl))
-    ∙ rw G.count
+-- both by the body of a plan
+abbrev formed_all : List ℕ → Body → ℕ → Bool
+formed_all counts B n = all_below n (λ a. count_ok (item_passes B a) (state_of counts []) a)
+
+abbrev complete_all : List ℕ → Body → ℕ → Bool
+complete_all counts B n = all_below n (λ a. eqb (get_or counts (first_finished + a) 0) (item_passes B a))
+
+-- of the items of a plan
+module _ {w items : List ℕ} {n : ℕ} (G : Graph w items n) where
+  pub own_most : (a : ℕ) → item_passes (body_of w) a ≤ max_passes
+  own_most a = omega (arith, passes_most w items n G)
+
+  -- what the codes tell of all items
+  pub formed_own : (counts : List ℕ) (passes : ℕ) → passes ≡ passes_of w → formed_to counts items passes n ≡ formed_all counts (body_of w) n
+  formed_own counts passes p =
+      all_ext n (λ a. count_ok (passes - code_fewer (get_or items a 0)) (state_of counts []) a) (λ a. count_ok (item_passes (body_of w) a) (state_of counts []) a)
+      (λ a l. ap (λ (k : ℕ). count_ok k (state_of counts []) a) (own_passes_lem w items n G passes p a l (passes - code_fewer (get_or items a 0)) refl))
+
+  pub complete_own : (counts : List ℕ) (passes : ℕ) → passes ≡ passes_of w → complete_to counts items passes n ≡ complete_all counts (body_of w) n
+  complete_own counts passes p =
+      all_ext n (λ a. eqb (get_or counts (first_finished + a) 0) (passes - code_fewer (get_or items a 0))) (λ a. eqb (get_or counts (first_finished + a) 0) (item_passes (body_of w) a))
+      (λ a l. ap (eqb (get_or counts (first_finished + a) 0)) (own_passes_lem w items n G passes p a l (passes - code_fewer (get_or items a 0)) refl))
+
+  -- the loop is complete
+  pub complete_is : (counts values : List ℕ) → complete_all counts (body_of w) n ≡ is_complete (body_of w) (state_of counts values)
+  complete_is counts values = rw G.count
 
 -- the numbers of unmet waits in the loop of `are_formed`
 module _ (counts : List ℕ) where

@@ -9,7 +9,6 @@ ghost use Rattle.plan.specs.Code.{code_fewer};
 ghost use Rattle.steps.specs.State.{state_of, unmet_by};
 ghost use Rattle.steps.specs.Answers.{count_ok};
 
-use plan::numbers::as_word;
 use plan::state::{Count, FIRST_FINISHED, FIRST_UNMET, TOP_BIT, own_passes, surplus};
 
 // Whether the counts of all n items of a table are in form: no more finished than the item has
@@ -22,12 +21,11 @@ pub fn are_formed(counts: &[Count], table: &[u16], passes: Count, n: usize) -> b
     ensures { result ≡ (all_below n (λ a. count_ok (passes - code_fewer (get_or table.now a 0)) (state_of counts.now []) a)
         && all_below n (λ a. leb (unmet_by counts.now a) n)) }
 {
-    let most = as_word(n);
+    let most = n as u64;
     let mut apart: u64 = 0;
     let mut beyond: u64 = 0;
     let mut above: u64 = 0;
-    let mut a: usize = 0;
-    while a < n {
+    for a in 0..n {
         let own = own_passes(passes, table[a]);
         let started = counts[a];
         let finished = counts[FIRST_FINISHED + a];
@@ -35,7 +33,6 @@ pub fn are_formed(counts: &[Count], table: &[u16], passes: Count, n: usize) -> b
         beyond = beyond | (finished | surplus(own, started));
         let number = counts[FIRST_UNMET + a];
         above = above | (number | surplus(most, number));
-        a += 1;
     }
     ((apart < 2) & (beyond < TOP_BIT)) & (above < TOP_BIT)
 }
@@ -48,11 +45,9 @@ pub fn are_complete(counts: &[Count], table: &[u16], passes: Count, n: usize) ->
     ensures { result ≡ all_below n (λ a. eqb (get_or counts.now (first_finished + a) 0) (passes - code_fewer (get_or table.now a 0))) }
 {
     let mut missing: u64 = 0;
-    let mut a: usize = 0;
-    while a < n {
+    for a in 0..n {
         let own = own_passes(passes, table[a]);
         missing = missing | surplus(own, counts[FIRST_FINISHED + a]);
-        a += 1;
     }
     missing < 1
 }
@@ -62,10 +57,8 @@ pub fn clear_counts(counts: &mut [Count], n: usize)
     requires { (count_words ≤ length counts.old) × (n ≤ max_items) }
     ensures { counts.new ≡ replaced (λ i. ltb i n || (leb first_finished i && ltb i (first_finished + n))) (λ i. 0) counts.old }
 {
-    let mut a: usize = 0;
-    while a < n {
+    for a in 0..n {
         counts[a] = 0;
         counts[FIRST_FINISHED + a] = 0;
-        a += 1;
     }
 }

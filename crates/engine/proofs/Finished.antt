@@ -1,7 +1,7 @@
 -- A finish counted, and the items that it makes ready.
 use Prim.Native.Nat.{ℕ, suc, ◌+◌, ◌-◌, ◌≤◌, ◌<◌}
 use mathlib.Core.Path.{◌≡◌, sym, ◌∙◌, ap}
-use mathlib.Core.Bool.{Bool, true, false, cond, ◌&&◌, ◌||◌, or-false}
+use mathlib.Core.Bool.{Bool, true, false, cond, ◌&&◌}
 use mathlib.Core.List.{List, [], ◌∷◌, ◌++◌, append-nil}
 use native.Mathlib.Omega.{arith}
 use borrow.Author.Tests.{ltb-true, lt-ltb}
@@ -11,15 +11,12 @@ use lib.Seq.{sets-eq, get_or-take}
 use Rattle.finite.specs.Lists.{mem}
 use Rattle.finite.specs.Put.{Added}
 use Rattle.finite.specs.Update.{replaced}
-use Rattle.finite.proofs.Members.{mem_append}
-use Rattle.finite.proofs.Puts.{added_one, added_append, added_same}
 use Rattle.finite.proofs.Tests.{test_ext}
 use Rattle.plan.specs.Limits.{max_passes}
 use Rattle.plan.specs.Layout.{plan_words, passes_of}
 use Rattle.plan.specs.Sizes.{max_items, count_words, first_finished, first_unmet, first_held}
 use Rattle.plan.specs.Code.{code_fewer}
 use Rattle.masks.specs.Masks.{in_mask, Entered}
-use Rattle.masks.proofs.Sets.{entered_ext, entered_more}
 use Rattle.steps.specs.State.{done_by, unmet_by}
 use Rattle.steps.specs.Answers.{Left}
 use Rattle.prepared.specs.Tables.{first_write, code_in, sources_in, target_count, target_in, places_in}
@@ -54,12 +51,12 @@ module _ (tables counts : List ℕ) (a passes done fewer sources : ℕ) (d : don
   own_ready = ap (λ (t : Bool). t && eqb sources 0) next ∙ ap (λ (x : ℕ). ltb (suc (done_by counts a)) (passes - code_fewer (code_in tables a)) && eqb x 0) s
 
 -- numbers stored from place 1 on, and how many they are at place 0
-pub list_counted : (F out : List ℕ) (at v : ℕ) (out' : List ℕ) → Added F 1 out at out' → at ≤ length out → v ≡ at - 1 →
+pub list_counted : (F out : List ℕ) (at v : ℕ) (mid out' : List ℕ) → Added F 1 out at mid → at ≤ length out → v ≡ at - 1 → out' ≡ mid →
     set out' 0 v ≡ (length F ∷ F) ++ drop (1 + length F) out
-list_counted F [] at v out' A l e = absurd (omega (arith, A.end))
-list_counted F (x ∷ out) at v out' A l e =
+list_counted F [] at v mid out' A l e u = absurd (omega (arith, A.end))
+list_counted F (x ∷ out) at v mid out' A l e u =
     let n : v ≡ length F = omega (arith, A.end) in
-    ap (λ (xs : List ℕ). set xs 0 v) (A.stored ∙ sets-eq F (x ∷ out) 1 (omega (arith, A.end)))
+    ap (λ (xs : List ℕ). set xs 0 v) (u ∙ A.stored ∙ sets-eq F (x ∷ out) 1 (omega (arith, A.end)))
     ∙ ap (λ (k : ℕ). k ∷ (F ++ drop (1 + length F) (x ∷ out))) n
 
 -- lowering the numbers of its targets keeps what item a has finished
@@ -97,36 +94,13 @@ module _ (plan tables counts values : List ℕ) (a passes : ℕ) (la : a < max_i
     unfolding freed_in
     freed_by_lem = rw (r, again_kept)
 
-    own_freed : ready ≡ true → freed_by (target_in tables a) (target_count tables a) counts ++ (a ∷ []) ≡ freed_in plan tables counts values a
+    pub own_freed : ready ≡ true → freed_by (target_in tables a) (target_count tables a) counts ++ (a ∷ []) ≡ freed_in plan tables counts values a
     own_freed q = ap (λ (t : Bool). freed_by (target_in tables a) (target_count tables a) counts ++ cond t (a ∷ []) []) (sym q) ∙ freed_by_lem
 
-    own_not : ready ≡ false → freed_by (target_in tables a) (target_count tables a) counts ≡ freed_in plan tables counts values a
+    pub own_not : ready ≡ false → freed_by (target_in tables a) (target_count tables a) counts ≡ freed_in plan tables counts values a
     own_not q =
         sym (append-nil (freed_by (target_in tables a) (target_count tables a) counts))
         ∙ (ap (λ (t : Bool). freed_by (target_in tables a) (target_count tables a) counts ++ cond t (a ∷ []) []) (sym q) ∙ freed_by_lem)
-
-    module _ (freed : List ℕ) (at : ℕ) (mid : List ℕ) (A : Added (freed_by (target_in tables a) (target_count tables a) counts) 1 freed at mid) where
-      pub own_listed : ready ≡ true → (v : ℕ) → v ≡ a → (at' : ℕ) (mid' : List ℕ) → mid' ≡ set mid at v → at' ≡ at + 1 →
-          Added (freed_in plan tables counts values a) 1 freed at' mid'
-      own_listed q v e at' mid' u i = rw (u, i) (added_same (own_freed q) (added_append A (added_one e)))
-
-      pub own_unlisted : ready ≡ false → (at' : ℕ) (mid' : List ℕ) → mid' ≡ mid → at' ≡ at → Added (freed_in plan tables counts values a) 1 freed at' mid'
-      own_unlisted q at' mid' u i = rw (u, i) (added_same (own_not q) A)
-
-    module _ (words mid : List ℕ) (E : Entered words (λ b. mem b (freed_by (target_in tables a) (target_count tables a) counts)) mid) where
-      pub own_entered : ready ≡ true → (words' : List ℕ) → Entered mid (λ b. eqb b a) words' → Entered words (λ b. mem b (freed_in plan tables counts values a)) words'
-      unfolding mem
-      own_entered q words' F =
-          entered_more words mid words' (λ b. mem b (freed_by (target_in tables a) (target_count tables a) counts)) (λ b. eqb b a)
-          (λ b. mem b (freed_in plan tables counts values a)) E F
-          (λ b l.
-          sym (ap (mem b) (sym (own_freed q)) ∙ (mem_append b (freed_by (target_in tables a) (target_count tables a) counts) (a ∷ [])
-          ∙ ap (λ (t : Bool). mem b (freed_by (target_in tables a) (target_count tables a) counts) || t) (or-false (eqb b a)))))
-
-      pub own_unentered : ready ≡ false → Entered words (λ b. mem b (freed_in plan tables counts values a)) mid
-      own_unentered q =
-          entered_ext words mid (λ b. mem b (freed_by (target_in tables a) (target_count tables a) counts)) (λ b. mem b (freed_in plan tables counts values a)) E
-          (λ b l. ap (mem b) (own_not q))
 
 -- item a, which has number 0, is not among the items that lowering puts into a set
 pub own_outside : (f : ℕ → ℕ) (counts words mid : List ℕ) (k a : ℕ) → a < max_items → Entered words (λ b. mem b (freed_by f k counts)) mid → in_mask words a ≡ false →

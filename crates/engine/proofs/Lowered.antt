@@ -1,26 +1,23 @@
 -- Numbers lowered one after another, and the items that become ready by it.
 use Prim.Native.Nat.{ℕ, zero, suc, ◌+◌, ◌-◌, ◌≤◌, ◌<◌}
-use mathlib.Core.Path.{◌≡◌, refl, sym, ◌∙◌, ap}
-use mathlib.Core.Bool.{Bool, true, false, cond, ◌||◌, or-false}
+use mathlib.Core.Path.{◌≡◌, refl, sym, ◌∙◌, ap, ap₂, subst}
+use mathlib.Core.Bool.{Bool, true, false, cond}
 use mathlib.Core.List.{List, [], ◌∷◌, ◌++◌, append-nil}
 use native.Mathlib.Decide.{ℕ_discrete}
 use native.Mathlib.Numerals.{add-one}
 use native.Mathlib.Omega.{arith}
-use borrow.Author.Tests.{eqb-true, eq-eqb, ne_eqb}
+use borrow.Author.Tests.{eqb-true, ne_eqb}
 use lib.Dec.{eqb}
 use lib.ListN.{length, get_or, set}
 use lib.Seq.{set-get_or, get_or-set_same, get_or-set_other}
 use Rattle.finite.specs.Lists.{mem}
-use Rattle.finite.specs.Put.{Added}
 use Rattle.finite.proofs.Members.{mem_append}
-use Rattle.finite.proofs.Puts.{added_none, added_one, added_append, added_same}
 use Rattle.plan.specs.Sizes.{max_items, count_words, first_unmet}
-use Rattle.masks.specs.Masks.{mask_words, Entered}
-use Rattle.masks.proofs.Sets.{entered_none, entered_ext, entered_more}
+use Rattle.masks.specs.Masks.{in_mask, Entered}
 use Rattle.steps.specs.State.{unmet_by}
 use Rattle.prepared.specs.Tables.{first_target, start_in, target_count, target_in}
 use Rattle.prepared.specs.Steps.{lowered_by, freed_by}
-use Rattle.prepared.proofs.Lowering.{lowered_more, lowered_length, freed_most}
+use Rattle.prepared.proofs.Lowering.{lowered_more, lowered_length}
 use Rattle.engine.specs.Usable.{Targets, Apart}
 
 -- one number
@@ -76,115 +73,81 @@ freed_not f counts (suc k) b z =
     side true q = rw (ne_eqb b (f k) (λ e. omega (arith, lowered_zero f counts k b z, eqb-true (unmet_by (lowered_by f k counts) (f k)) 1 q, ap (unmet_by (lowered_by f k counts)) e)))
     side false q = refl
 
--- the counts, and the list from place 1 on, after k items
-pub record Listed (f : ℕ → ℕ) (counts freed : List ℕ) (k : ℕ) (counts' : List ℕ) (at : ℕ) (freed' : List ℕ) : Type 0 where
-  pub numbers : counts' ≡ lowered_by f k counts
-  pub added : Added (freed_by f k counts) 1 freed at freed'
+-- an item that still has a number is not freed
+pub freed_none : (f : ℕ → ℕ) (counts : List ℕ) → count_words ≤ length counts → (k c : ℕ) → c < max_items → (unmet_by (lowered_by f k counts) c ≡ 0 → ⊥) →
+    mem c (freed_by f k counts) ≡ false
+unfolding freed_by lowered_by mem
+freed_none f counts room zero c l h = refl
+freed_none f counts room (suc k) c l h =
+    mem_append c (freed_by f k counts) (cond (eqb (unmet_by (lowered_by f k counts) (f k)) 1) (f k ∷ []) [])
+    ∙ elim (ℕ_discrete c (f k)) [
+      | yes e ↦
+          let own : unmet_by (lowered_by f (suc k) counts) c ≡ unmet_by (lowered_by f k counts) (f k) - 1 =
+          ap (unmet_by (lowered_by f (suc k) counts)) e
+          ∙ get_or-set_same (lowered_by f k counts) (first_unmet + f k) (unmet_by (lowered_by f k counts) (f k) - 1) 0 (omega (arith, lowered_length f k counts)) in
+          rw (
+            freed_none f counts room k c l (λ z. h (own ∙ omega (arith, ap (unmet_by (lowered_by f k counts)) e))),
+            ne_eqb (unmet_by (lowered_by f k counts) (f k)) 1 (λ z. h (own ∙ omega arith)),
+          ) refl
+      | no e ↦
+          rw (freed_none f counts room k c l
+          (λ z.
+          h (get_or-set_other (lowered_by f k counts) (first_unmet + f k) (first_unmet + c) (unmet_by (lowered_by f k counts) (f k) - 1) 0 (λ i. e (omega arith)) ∙ z)))
+          (side (eqb (unmet_by (lowered_by f k counts) (f k)) 1) e)
+    ]
+  where
+    side : (t : Bool) → (c ≡ f k → ⊥) → mem c (cond t (f k ∷ []) []) ≡ false
+    side true e = rw (ne_eqb c (f k) e) refl
+    side false e = refl
 
-module _ (f : ℕ → ℕ) (counts freed : List ℕ) where
-  pub listed_none : Listed f counts freed 0 counts 1 freed
+-- an item that is about to be freed does not stand in the set
+pub freed_outside : (f : ℕ → ℕ) (counts words words' : List ℕ) → count_words ≤ length counts → Apart counts words → (k c : ℕ) → c < max_items →
+    unmet_by (lowered_by f k counts) c ≡ 1 → Entered words (λ b. mem b (freed_by f k counts)) words' → in_mask words' c ≡ false
+freed_outside f counts words words' room h k c l e E =
+    E.each c l ∙ rw (h c l (λ z. omega (arith, lowered_zero f counts k c z)), freed_none f counts room k c l (λ z. omega arith)) refl
+
+-- the counts, and what is put, after k items
+module _ (S : Type 0) (puts : S → List ℕ → S → Type 0) (f : ℕ → ℕ) (counts : List ℕ) (s : S) where
+  pub record Lowered (k : ℕ) (counts' : List ℕ) (t : S) : Type 0 where
+    pub numbers : counts' ≡ lowered_by f k counts
+    pub freed : puts s (freed_by f k counts) t
+
+module _ {S : Type 0} {puts : S → List ℕ → S → Type 0} (f : ℕ → ℕ) (counts : List ℕ) (s : S) where
+  pub lowered_none : puts s [] s → Lowered S puts f counts s 0 counts s
   unfolding lowered_by freed_by
-  listed_none = record { numbers = refl; added = added_none }
+  lowered_none p = record { numbers = refl; freed = p }
 
-  module _ (k : ℕ) (counts' : List ℕ) (at : ℕ) (freed' : List ℕ) (L : Listed f counts freed k counts' at freed') where
-    pub listed_length : length counts' ≡ length counts
-    listed_length = ap length L.numbers ∙ lowered_length f k counts
+  module _ (k : ℕ) (counts' : List ℕ) (t : S) (L : Lowered S puts f counts s k counts' t) where
+    pub lowered_size : length counts' ≡ length counts
+    lowered_size = ap length L.numbers ∙ lowered_length f k counts
 
-    pub listed_few : at ≤ k + 1
-    listed_few = omega (arith, L.added.end, freed_most f k counts)
+    -- an item that becomes ready had a number of 1
+    pub lowered_one : (b : ℕ) → b ≡ f k → (r : Bool) → r ≡ eqb (unmet_by counts' b) 1 → r ≡ true → unmet_by (lowered_by f k counts) (f k) ≡ 1
+    lowered_one b e r h q = sym (ap₂ unmet_by L.numbers e) ∙ eqb-true (unmet_by counts' b) 1 (sym h ∙ q)
 
     -- one item more, b
-    module _ (b : ℕ) (e : b ≡ f k) (counts'' : List ℕ) (n : counts'' ≡ set counts' (first_unmet + b) (unmet_by counts' b - 1)) (t : Bool) (h : t ≡ eqb (unmet_by counts' b) 1) where
-      more_freed : freed_by f k counts ++ cond t (b ∷ []) [] ≡ freed_by f (k + 1) counts
+    module _ (b : ℕ) (e : b ≡ f k) (counts'' : List ℕ) (n : counts'' ≡ set counts' (first_unmet + b) (unmet_by counts' b - 1)) (r : Bool) (h : r ≡ eqb (unmet_by counts' b) 1) where
+      more_freed : freed_by f k counts ++ cond r (b ∷ []) [] ≡ freed_by f (k + 1) counts
       more_freed = ap (λ (s : Bool). freed_by f k counts ++ cond s (b ∷ []) []) h ∙ freed_next f counts k counts' L.numbers b e
 
-      pub listed_more : t ≡ true → (v : ℕ) → v ≡ b → (freed'' : List ℕ) → freed'' ≡ set freed' at v → (at' : ℕ) → at' ≡ at + 1 →
-          Listed f counts freed (k + 1) counts'' at' freed''
-      listed_more q v w freed'' u at' i =
+      pub lowered_put : ((s t u : S) (xs ys : List ℕ) → puts s xs t → puts t ys u → puts s (xs ++ ys) u) → r ≡ true → (u : S) → puts t (b ∷ []) u →
+          Lowered S puts f counts s (k + 1) counts'' u
+      lowered_put more q u p =
           record {
             numbers = n ∙ lowered_more f k b (unmet_by counts' b - 1) counts counts' L.numbers e refl;
-            added =
-                rw (u, i)
-                (added_same (ap (λ (s : Bool). freed_by f k counts ++ cond s (b ∷ []) []) (sym q) ∙ more_freed) (added_append L.added (added_one w)));
+            freed =
+                subst (λ (xs : List ℕ). puts s xs u) (ap (λ (s : Bool). freed_by f k counts ++ cond s (b ∷ []) []) (sym q) ∙ more_freed)
+                (more s t u (freed_by f k counts) (b ∷ []) L.freed p);
           }
 
-      pub listed_same : t ≡ false → (freed'' : List ℕ) → freed'' ≡ freed' → (at' : ℕ) → at' ≡ at → Listed f counts freed (k + 1) counts'' at' freed''
-      listed_same q freed'' u at' i =
+      pub lowered_not : r ≡ false → Lowered S puts f counts s (k + 1) counts'' t
+      lowered_not q =
           record {
             numbers = n ∙ lowered_more f k b (unmet_by counts' b - 1) counts counts' L.numbers e refl;
-            added =
-                rw (u, i)
-                (added_same (sym (append-nil (freed_by f k counts)) ∙ (ap (λ (s : Bool). freed_by f k counts ++ cond s (b ∷ []) []) (sym q) ∙ more_freed)) L.added);
+            freed =
+                subst (λ (xs : List ℕ). puts s xs t)
+                (sym (append-nil (freed_by f k counts)) ∙ (ap (λ (s : Bool). freed_by f k counts ++ cond s (b ∷ []) []) (sym q) ∙ more_freed)) L.freed;
           }
 
-  pub listed_done : (n k : ℕ) (counts' : List ℕ) (at : ℕ) (freed' : List ℕ) → Listed f counts freed k counts' at freed' → n ≤ k → k ≤ n →
-      Listed f counts freed n counts' at freed'
-  listed_done n k counts' at freed' L u v = let e : n ≡ k = omega arith in rw e L
-
--- the counts, and the set, after k items
-pub record Gathered (f : ℕ → ℕ) (counts words : List ℕ) (k : ℕ) (counts' words' : List ℕ) : Type 0 where
-  pub numbers : counts' ≡ lowered_by f k counts
-  pub entered : Entered words (λ b. mem b (freed_by f k counts)) words'
-  pub apart : Apart counts' words'
-
-module _ (f : ℕ → ℕ) (counts words : List ℕ) where
-  pub gathered_none : length words ≡ mask_words → Apart counts words → Gathered f counts words 0 counts words
-  unfolding lowered_by freed_by mem
-  gathered_none e h = record { numbers = refl; entered = entered_none words (λ b. false) e (λ b l. refl); apart = h }
-
-  module _ (k : ℕ) (counts' words' : List ℕ) (G : Gathered f counts words k counts' words') where
-    pub gathered_length : length counts' ≡ length counts
-    gathered_length = ap length G.numbers ∙ lowered_length f k counts
-
-    -- one item more, b
-    module _ (long : count_words ≤ length counts) (b : ℕ) (e : b ≡ f k) (lb : b < max_items) (counts'' : List ℕ)
-        (n : counts'' ≡ set counts' (first_unmet + b) (unmet_by counts' b - 1)) where
-      number_own : unmet_by counts'' b ≡ unmet_by counts' b - 1
-      number_own =
-          ap (λ (x : List ℕ). unmet_by x b) n
-          ∙ get_or-set_same counts' (first_unmet + b) (unmet_by counts' b - 1) 0 (omega (arith, gathered_length))
-
-      number_other : (c : ℕ) → (c ≡ b → ⊥) → unmet_by counts'' c ≡ unmet_by counts' c
-      number_other c h =
-          ap (λ (x : List ℕ). unmet_by x c) n
-          ∙ get_or-set_other counts' (first_unmet + b) (first_unmet + c) (unmet_by counts' b - 1) 0 (λ i. h (omega arith))
-
-      next_freed : (c : ℕ) → mem c (freed_by f (k + 1) counts) ≡ (mem c (freed_by f k counts) || mem c (cond (eqb (unmet_by counts' b) 1) (b ∷ []) []))
-      next_freed c =
-          ap (mem c) (sym (freed_next f counts k counts' G.numbers b e))
-          ∙ mem_append c (freed_by f k counts) (cond (eqb (unmet_by counts' b) 1) (b ∷ []) [])
-
-      pub gathered_more : unmet_by counts' b ≡ 1 → (words'' : List ℕ) → Entered words' (λ c. eqb c b) words'' → Gathered f counts words (k + 1) counts'' words''
-      unfolding mem
-      gathered_more q words'' E =
-          record {
-            numbers = n ∙ lowered_more f k b (unmet_by counts' b - 1) counts counts' G.numbers e refl;
-            entered =
-                entered_more words words' words'' (λ c. mem c (freed_by f k counts)) (λ c. eqb c b) (λ c. mem c (freed_by f (k + 1) counts)) G.entered E
-                (λ c l. sym (next_freed c ∙ rw (eq-eqb (unmet_by counts' b) 1 q, or-false (eqb c b))));
-            apart =
-                λ c l h.
-                elim (ℕ_discrete c b) [
-                  | yes i ↦ absurd (h (omega (arith, number_own, ap (unmet_by counts'') i)))
-                  | no i ↦ E.each c l ∙ rw (ne_eqb c b i, G.apart c l (λ z. h (number_other c i ∙ z)))
-                ];
-          }
-
-      pub gathered_same : (unmet_by counts' b ≡ 1 → ⊥) → Gathered f counts words (k + 1) counts'' words'
-      unfolding mem
-      gathered_same q =
-          record {
-            numbers = n ∙ lowered_more f k b (unmet_by counts' b - 1) counts counts' G.numbers e refl;
-            entered =
-                entered_ext words words' (λ c. mem c (freed_by f k counts)) (λ c. mem c (freed_by f (k + 1) counts)) G.entered
-                (λ c l. sym (next_freed c ∙ rw (ne_eqb (unmet_by counts' b) 1 q) (or-false (mem c (freed_by f k counts)))));
-            apart =
-                λ c l h.
-                elim (ℕ_discrete c b) [
-                  | yes i ↦ G.apart c l (λ z. h (omega (arith, number_own, ap (unmet_by counts'') i, ap (unmet_by counts') i)))
-                  | no i ↦ G.apart c l (λ z. h (number_other c i ∙ z))
-                ];
-          }
-
-  pub gathered_done : (n k : ℕ) (counts' words' : List ℕ) → Gathered f counts words k counts' words' → n ≤ k → k ≤ n → Gathered f counts words n counts' words'
-  gathered_done n k counts' words' G u v = let e : n ≡ k = omega arith in rw e G
+  pub lowered_all : (n k : ℕ) (counts' : List ℕ) (t : S) → Lowered S puts f counts s k counts' t → n ≤ k → k ≤ n → Lowered S puts f counts s n counts' t
+  lowered_all n k counts' t L u v = let e : n ≡ k = omega arith in rw e L

@@ -2,7 +2,6 @@
 -- believed.
 use Rattle.std.specs.Prelude.{ℕ, ◌+◌, ◌≤◌, ◌<◌, ◌≡◌, false, List, length, get_or}
 use Rattle.plan.specs.Limits.{max_passes, max_accesses}
-use Rattle.plan.specs.Layout.{plan_words}
 use Rattle.plan.specs.Sizes.{max_items, max_edges}
 use Rattle.masks.specs.Masks.{in_mask}
 use Rattle.steps.specs.State.{count_words, value_words, first_held, done_by, unmet_by}
@@ -20,20 +19,19 @@ pub record Targets (tables : List ℕ) (a : ℕ) : Type 0 where
   pub below : (k : ℕ) → k < target_count tables a → target_in tables a k < max_items
 
 -- the slices of a step of item a are long enough
-pub record Sized (plan tables counts values : List ℕ) (a : ℕ) : Type 0 where
-  pub long_plan_lem : plan_words ≤ length plan
+pub record Sized (tables counts values : List ℕ) (a : ℕ) : Type 0 where
   pub long_tables : prepared_words ≤ length tables
   pub long_counts : count_words ≤ length counts
   pub long_values : value_words ≤ length values
   pub below : a < max_items
 
-pub record Startable (plan tables counts values : List ℕ) (a : ℕ) : Type 0 where
-  pub sized : Sized plan tables counts values a
+pub record Startable (tables counts values : List ℕ) (a : ℕ) : Type 0 where
+  pub sized : Sized tables counts values a
   pub row : Row tables first_read a
   pub small : get_or counts a 0 < max_passes
 
-pub record Finishable (plan tables counts values : List ℕ) (a : ℕ) : Type 0 where
-  pub sized : Sized plan tables counts values a
+pub record Finishable (tables counts values : List ℕ) (a : ℕ) : Type 0 where
+  pub sized : Sized tables counts values a
   pub row : Row tables first_write a
   pub targets : Targets tables a
   pub small : done_by counts a < max_passes

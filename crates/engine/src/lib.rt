@@ -4,5 +4,6 @@
 #![tactic(auto)]
 
 pub mod finishes;
+pub mod freed;
 pub mod lowering;
 pub mod starts;

@@ -1,16 +1,13 @@
-// Lowering the numbers of an item's targets, and telling which become 0: in a list, or in a set.
+// Lowering the numbers of an item's targets, and telling which become 0.
 ghost use Rattle.std.specs.Prelude.{◌+◌, ◌-◌, ◌≤◌, ◌<◌, ◌≡◌, eqb, length, set};
-ghost use Rattle.finite.specs.Lists.{mem};
-ghost use Rattle.finite.specs.Put.{Added};
 ghost use Rattle.plan.specs.Sizes.{max_items, count_words, first_unmet};
-ghost use Rattle.masks.specs.Masks.{mask_words, Entered};
 ghost use Rattle.steps.specs.State.{unmet_by};
 ghost use Rattle.prepared.specs.Tables.{prepared_words, target_count, target_in};
 ghost use Rattle.prepared.specs.Steps.{lowered_by, freed_by};
-ghost use Rattle.engine.specs.Usable.{Targets, Apart};
+ghost use Rattle.engine.specs.Usable.{Targets};
+ghost use Rattle.engine.specs.Freed.{Takes};
 
-use masks::insert;
-use plan::numbers::index_16;
+use crate::freed::Freed;
 use plan::state::{Count, FIRST_UNMET};
 use prepared::{FIRST_START, FIRST_TARGET};
 
@@ -33,59 +30,27 @@ fn target_count(tables: &[u16], a: usize) -> usize
     requires { (prepared_words ≤ length tables.now) × (a < max_items) }
     ensures { result ≡ target_count tables.now a }
 {
-    let from = index_16(tables[FIRST_START + a]);
-    let end = index_16(tables[FIRST_START + (a + 1)]);
+    let from = usize::from(tables[FIRST_START + a]);
+    let end = usize::from(tables[FIRST_START + (a + 1)]);
     if end < from {
         return 0;
     }
     end - from
 }
 
-// Lowers the numbers of the targets of item a. Those that become 0 are listed from place 1 on;
-// answers the place behind them.
-pub(crate) fn lower_into_list(
-    tables: &[u16],
-    a: usize,
-    counts: &mut [Count],
-    freed: &mut [u16],
-) -> usize
+// Lowers the numbers of the targets of item a, and puts those that become 0.
+pub(crate) fn lower_targets<F: Freed>(tables: &[u16], a: usize, counts: &mut [Count], freed: &mut F)
     requires { (prepared_words ≤ length tables.now) × (a < max_items) × Targets tables.now a × (count_words ≤ length counts.old)
-        × (max_items + 1 ≤ length freed.old) }
+        × Takes F F.can_put F.puts (target_in tables.now a) (target_count tables.now a) counts.old freed.old }
     ensures { (counts.new ≡ lowered_by (target_in tables.now a) (target_count tables.now a) counts.old)
-        × Added (freed_by (target_in tables.now a) (target_count tables.now a) counts.old) 1 freed.old result freed.new
-        × (result ≤ max_items) }
+        × F.puts freed.old (freed_by (target_in tables.now a) (target_count tables.now a) counts.old) freed.new }
 {
-    let from = index_16(tables[FIRST_START + a]);
+    let from = usize::from(tables[FIRST_START + a]);
     let count = target_count(tables, a);
-    let mut at: usize = 1;
-    let mut k: usize = 0;
-    while k < count {
-        let target = tables[FIRST_TARGET + (from + k)];
-        if lower_number(counts, index_16(target)) {
-            freed[at] = target;
-            at += 1;
-        }
-        k += 1;
-    }
-    at
-}
-
-// As `lower_into_list`, with a set that has no item that waits.
-pub(crate) fn lower_into_set(tables: &[u16], a: usize, counts: &mut [Count], words: &mut [u64])
-    requires { (prepared_words ≤ length tables.now) × (a < max_items) × Targets tables.now a × (count_words ≤ length counts.old)
-        × (length words.old ≡ mask_words) × Apart counts.old words.old }
-    ensures { (counts.new ≡ lowered_by (target_in tables.now a) (target_count tables.now a) counts.old)
-        × Entered words.old
-        (λ b. mem b (freed_by (target_in tables.now a) (target_count tables.now a) counts.old)) words.new }
-{
-    let from = index_16(tables[FIRST_START + a]);
-    let count = target_count(tables, a);
-    let mut k: usize = 0;
-    while k < count {
-        let target = index_16(tables[FIRST_TARGET + (from + k)]);
+    for k in 0..count {
+        let target = usize::from(tables[FIRST_TARGET + (from + k)]);
         if lower_number(counts, target) {
-            insert(words, target);
+            freed.put(target);
         }
-        k += 1;
     }
 }

@@ -1,7 +1,6 @@
 // Starting an item: the word that it computes, which it then holds.
 ghost use Rattle.std.specs.Prelude.{ℕ, suc, ◌+◌, ◌≤◌, ◌<◌, ◌≡◌, cond, List, map, eqb, length, get_or, set, take};
 ghost use Rattle.plan.specs.Limits.{max_passes, max_accesses};
-ghost use Rattle.plan.specs.Layout.{plan_words};
 ghost use Rattle.plan.specs.Sizes.{max_items, count_words, value_words, first_held};
 ghost use Rattle.plan.specs.Code.{code_kind, code_subject};
 ghost use Rattle.graph.specs.Answers.{plan_body};
@@ -10,9 +9,8 @@ ghost use Rattle.prepared.specs.Steps.{word_in, started_in};
 ghost use Rattle.engine.specs.Usable.{Row, Startable};
 
 use plan::code::{TASK, item_kind, item_subject};
-use plan::layout::{constant_of, kernel_of};
-use plan::numbers::{index_16, wide_16};
 use plan::state::{Count, FIRST_HELD};
+use plan::words::Plan;
 use prepared::{FIRST_CODE, FIRST_READ, ROW, ROW_COUNT};
 
 // Puts the words that item a reads to the front of `words`, and answers how many they are.
@@ -23,39 +21,33 @@ fn gather_words(tables: &[u16], a: usize, values: &[u64], words: &mut [u64]) -> 
         × (result ≤ max_accesses) × (length words.new ≡ max_accesses) }
 {
     let row = FIRST_READ + ROW * a;
-    let count = index_16(tables[row + ROW_COUNT]);
-    let mut k: usize = 0;
-    while k < count {
-        words[k] = values[index_16(tables[row + k])];
-        k += 1;
+    let count = usize::from(tables[row + ROW_COUNT]);
+    for k in 0..count {
+        words[k] = values[usize::from(tables[row + k])];
     }
     count
 }
 
 // The word of an item with this number in the item table, by the words that it reads.
-fn word_from(plan: &[u64], code: u64, words: &[u64]) -> u64
-    requires { plan_words ≤ length plan.now }
+fn word_from(plan: &Plan, code: u64, words: &[u64]) -> u64
     ensures { result ≡ cond (eqb (code_kind code) 0) ((plan_body plan.now).compute (code_subject code) words.now) (get_or words.now 0 0) }
 {
     if item_kind(code) == TASK {
         let i = item_subject(code);
-        return kernels::kernel_word(kernel_of(plan, i), constant_of(plan, i), words);
+        return kernels::kernel_word(plan.kernel(i), plan.constant(i), words);
     }
-    if words.len() == 0 {
-        return 0;
-    }
-    words[0]
+    if words.is_empty() { 0 } else { words[0] }
 }
 
 // The word that item a computes. `words` is room for what it reads.
-pub fn item_word(plan: &[u64], tables: &[u16], a: usize, values: &[u64], words: &mut [u64]) -> u64
-    requires { (plan_words ≤ length plan.now) × (prepared_words ≤ length tables.now) × (a < max_items) × Row tables.now first_read a
+pub fn item_word(plan: &Plan, tables: &[u16], a: usize, values: &[u64], words: &mut [u64]) -> u64
+    requires { (prepared_words ≤ length tables.now) × (a < max_items) × Row tables.now first_read a
         × (value_words ≤ length values.now) × (length words.old ≡ max_accesses) }
     ensures { ((counts : List ℕ) → result ≡ word_in plan.now tables.now counts values.now a)
         × (length words.new ≡ max_accesses) }
 {
     let count = gather_words(tables, a, values, words);
-    word_from(plan, wide_16(tables[FIRST_CODE + a]), &words[..count])
+    word_from(plan, u64::from(tables[FIRST_CODE + a]), &words[..count])
 }
 
 // Counts a start of item a, which then holds this word.
@@ -71,14 +63,14 @@ pub fn hold_word(a: usize, counts: &mut [Count], values: &mut [u64], word: u64)
 // Item a reads and computes its word, which is held and answered; the start is counted. `words` is
 // room for what it reads.
 pub fn start_item(
-    plan: &[u64],
+    plan: &Plan,
     tables: &[u16],
     a: usize,
     counts: &mut [Count],
     values: &mut [u64],
     words: &mut [u64],
 ) -> u64
-    requires { Startable plan.now tables.now counts.old values.old a × (length words.old ≡ max_accesses) }
+    requires { Startable tables.now counts.old values.old a × (length words.old ≡ max_accesses) }
     ensures { (record { refusal = 0; word = result; counts = counts.new; values = values.new }
         ≡ started_in plan.now tables.now counts.old values.old a)
         × (length words.new ≡ max_accesses) }

@@ -2,7 +2,7 @@
 use Rattle.std.proofs.Common.{◌≡◌, ℕ, ◌+◌, ◌-◌, ◌%◌, ◌^◌, ◌<◌, ◌≤◌, Bool, true, false, eqb, ltb, List, ◌∷◌, length, get_or, drop, sym, refl, ◌∙◌, add-one, arith, drop_of_length-le, drop-cons, ltb-false, ltb-true, eqb-true}
 use Rattle.finite.proofs.Tests.{not_both}
 use Rattle.text.specs.Numbers.{is_digit}
-use Rattle.text.proofs.NumberLaws.{digit_below, digit_above, digit_in}
+use Rattle.text.proofs.NumberLaws.{digit_in}
 use Rattle.entries.specs.Scan.{head_is, head_digit}
 
 module _ (s : List ℕ) (i : ℕ) where
@@ -38,10 +38,3 @@ module _ (s : List ℕ) (i : ℕ) where
 module _ (c d : ℕ) (byte : c < 256) (word : d < 2 ^ 64) (e : (d + 48) % 2 ^ 64 ≡ c) where
   pub wrapped_digit : d ≤ 9 → (is_digit c ≡ true) × (d ≡ c - 48)
   wrapped_digit h = (digit_in c (omega arith) (omega arith), omega arith)
-
-  pub wrapped_other : 9 < d → is_digit c ≡ false
-  wrapped_other h = go (ltb c 48) refl
-    where
-      go : (t : Bool) → ltb c 48 ≡ t → is_digit c ≡ false
-      go true p = digit_below c (ltb-true c 48 p)
-      go false p = digit_above c (omega (arith, ltb-false c 48 p))

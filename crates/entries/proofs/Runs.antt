@@ -13,19 +13,6 @@ pub digit_of : (c : ℕ) → is_digit c ≡ true → DigitAt c
 digit_of c e = digit_at (c ∷ []) 0 (omega arith) (and_intro (is_digit c) true e refl)
 
 module _ (s : List ℕ) (at : ℕ) where
-  pub read_none : at ≤ length s → Read s at 0 (at + 0)
-  read_none h =
-      let e : at ≡ at + 0 = omega arith in
-      record {
-        front = [];
-        parts = ap (λ k. drop k s) e;
-        size = omega arith;
-        within = omega arith;
-        all = refl;
-        says = refl;
-        small = omega arith;
-      }
-
   module _ {v i : ℕ} (r : Read s at v i) where
     -- the next byte is a digit too
     pub read_more : i < length s → is_digit (get_or s i 0) ≡ true → Read s at (v * 10 + (get_or s i 0 - 48)) (i + 1)

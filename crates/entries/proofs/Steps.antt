@@ -1,18 +1,17 @@
 -- The step of a line: it is said just where the line is the step's own. With the laws of the
 -- functions that read the line's parts.
-use Rattle.std.proofs.Common.{◌≡◌, ℕ, ◌<◌, ◌≤◌, Bool, true, false, List, ◌∷◌, ◌++◌, length, get_or, take, drop, sym, refl, ap, ◌∙◌, arith, length-append, take-append-drop}
+use Rattle.std.proofs.Common.{◌≡◌, ℕ, ◌<◌, ◌≤◌, false, List, ◌∷◌, ◌++◌, length, get_or, take, drop, sym, refl, ap, ◌∙◌, arith, length-append}
 use mathlib.Core.Option.{Option, none, some}
 use Rattle.finite.proofs.Tests.{not_both}
 use Rattle.text.specs.Words.{alike}
 use Rattle.text.specs.Digits.{digits}
 use Rattle.text.specs.declared.Number.TheVariants.{Value}
-use Rattle.text.proofs.WordLaws.{alike_same}
 use Rattle.plan.specs.Limits.{max_word}
 use Rattle.journal.specs.Lines.{Step, start, finish, step_of}
 use Rattle.journal.specs.Written.{line_of}
 use Rattle.journal.specs.Laws.{Fits}
 use Rattle.journal.proofs.Lines.{step_back, line_back}
-use Rattle.entries.specs.Scan.{start_word, finish_word, Begins, Fielded, Last}
+use Rattle.entries.specs.Scan.{start_word, finish_word, Begins, Fielded, NoField, Last, NoLast}
 
 module _ (s : List ℕ) where
   said_here : (e : Step) → Fits e → s ≡ line_of e → some e ≡ step_of s
@@ -33,20 +32,16 @@ module _ (s : List ℕ) where
         let z : ◌≡◌ {A = ℕ} 115 102 = ap (λ l. get_or l 0 0) (sym b.parts ∙ p) in
         absurd (omega arith)
 
-    module _ (a i : ℕ) (g : Bool) (x : Fielded s 6 9 g a i) where
-      pub start_no_item : g ≡ false → none ≡ step_of s
-      start_no_item k = none_here (λ e h p. let (c, w, u, m, q) = start_back e h p in not_both (x.only c (digits (Value w)) u q).0 k)
+    pub start_no_item : NoField s 6 9 → none ≡ step_of s
+    start_no_item f = none_here (λ e h p. let (c, w, u, m, q) = start_back e h p in f c (digits (Value w)) u q)
 
-      module _ (w : ℕ) (o : Bool) (y : Last s i o w) where
-        pub start_no_word : o ≡ false → none ≡ step_of s
-        start_no_word k =
-            none_here (λ e h p.
-            let (c, v, u, m, q) = start_back e h p in
-            not_both (y.only v m (x.only c (digits (Value v)) u q).2) k)
+    module _ (a i : ℕ) (x : Fielded s 6 9 a i) where
+      pub start_no_word : NoLast s i → none ≡ step_of s
+      start_no_word f = none_here (λ e h p. let (c, v, u, m, q) = start_back e h p in f v m (x.only c (digits (Value v)) u q).1)
 
-        pub start_said : g ≡ true → o ≡ true → some (start a w) ≡ step_of s
-        start_said k l =
-            said_here (start a w) (x.fits k, y.fits l) (b.parts ∙ ap (λ t. start_word ++ t) (x.parts k ∙ ap (λ t. digits (Value a) ++ (9 ∷ t)) (y.parts l)))
+      pub start_said : (w : ℕ) → Last s i w → some (start a w) ≡ step_of s
+      start_said w y =
+          said_here (start a w) (x.fits, y.fits) (b.parts ∙ ap (λ t. start_word ++ t) (x.parts ∙ ap (λ t. digits (Value a) ++ (9 ∷ t)) y.parts))
 
   -- behind `finish` and a tab
   module _ (b : Begins s 7 finish_word) where
@@ -56,12 +51,11 @@ module _ (s : List ℕ) where
         let z : ◌≡◌ {A = ℕ} 102 115 = ap (λ l. get_or l 0 0) (sym b.parts ∙ p) in
         absurd (omega arith)
 
-    module _ (a : ℕ) (g : Bool) (x : Last s 7 g a) where
-      pub finish_no_item : g ≡ false → none ≡ step_of s
-      finish_no_item k = none_here (λ e h p. let (c, u, q) = finish_back e h p in not_both (x.only c u q) k)
+    pub finish_no_item : NoLast s 7 → none ≡ step_of s
+    finish_no_item f = none_here (λ e h p. let (c, u, q) = finish_back e h p in f c u q)
 
-      pub finish_said : g ≡ true → some (finish a) ≡ step_of s
-      finish_said k = said_here (finish a) (x.fits k) (b.parts ∙ ap (λ t. finish_word ++ t) (x.parts k))
+    pub finish_said : (a : ℕ) → Last s 7 a → some (finish a) ≡ step_of s
+    finish_said a x = said_here (finish a) x.fits (b.parts ∙ ap (λ t. finish_word ++ t) x.parts)
 
   -- a line is longer than a word
   pub too_short : length s < 7 → none ≡ step_of s
@@ -70,10 +64,6 @@ module _ (s : List ℕ) where
       no_line : (e : Step) → Fits e → s ≡ line_of e → ⊥
       no_line (start a w) x p = omega (arith, ap length p, length-append (digits (Value a)) (9 ∷ digits (Value w)))
       no_line (finish a) x p = omega (arith, ap length p)
-
-  -- a word of n bytes
-  pub word_begins : (n : ℕ) (word : List ℕ) → n ≤ length s → alike (take n s) word ≡ true → Begins s n word
-  word_begins n word h e = record { parts = sym (take-append-drop n s) ∙ ap (λ t. t ++ drop n s) (alike_same (take n s) word e); within = h }
 
   -- behind no word
   pub wordless : alike (take 6 s) start_word ≡ false → alike (take 7 s) finish_word ≡ false → none ≡ step_of s

@@ -1,11 +1,12 @@
 -- What the parts of a scan promise of a line from an offset on: of a word, of a run of digits, of a
 -- number. It serves the contracts of inner functions: nothing here need be believed.
-use Rattle.std.specs.Prelude.{◌≡◌, ℕ, ◌+◌, ◌^◌, ◌<◌, ◌≤◌, Bool, true, false, List, [], ◌∷◌, ◌++◌, length, drop, ◌==◌, nat_eq, slice_index}
+use Rattle.std.specs.Prelude.{◌≡◌, ℕ, ◌+◌, ◌^◌, ◌<◌, ◌≤◌, Bool, true, false, List, [], ◌∷◌, ◌++◌, length, drop, ◌==◌, nat_eq, slice_index, Option, MatchOption}
 use Rattle.text.specs.Ascii.{ascii}
 use Rattle.text.specs.Numbers.{is_digit, all_digits, decimal_after}
 use Rattle.text.specs.Digits.{digits}
 use Rattle.text.specs.declared.Number.TheVariants.{Value}
 use Rattle.plan.specs.Limits.{max_word}
+use Rattle.entries.specs.declared.Numeral.{Numeral}
 
 -- the words with the tab behind them
 abbrev pub start_word : List ℕ
@@ -27,12 +28,6 @@ head_digit (c ∷ t) = is_digit c
 pub record Begins (s : List ℕ) (n : ℕ) (word : List ℕ) : Type 0 where
   pub parts : s ≡ word ++ drop n s
   pub within : n ≤ length s
-
--- n, but at most 19
-pub record Capped (n r : ℕ) : Type 0 where
-  pub within : r ≤ n
-  pub most : r ≤ 19
-  pub whole : r < 19 → r ≡ n
 
 -- the digits from `at` to `stop` write `value`
 pub record Read (s : List ℕ) (at value stop : ℕ) : Type 0 where
@@ -57,24 +52,40 @@ pub record Long (s : List ℕ) (at value stop : ℕ) : Type 0 where
   pub size : stop ≡ at + 19
   pub lead : nat_eq (slice_index s at) 48 ≡ false
 
--- `good` where the digits of the number `value` stand from `at` to `stop`, and no digit behind them
-pub record Numbered (s : List ℕ) (at : ℕ) (good : Bool) (value stop : ℕ) : Type 0 where
-  pub fits : good ≡ true → value ≤ max_word
-  pub parts : good ≡ true → drop at s ≡ digits (Value value) ++ drop stop s
-  pub within : good ≡ true → stop ≤ length s
-  pub only : (n : ℕ) (t : List ℕ) → n ≤ max_word → drop at s ≡ digits (Value n) ++ t → head_digit t ≡ false →
-      (good ≡ true) × (value ≡ n) × (drop stop s ≡ t)
+-- the digits of the number `value` stand from `at` to `stop`, and no digit behind them
+pub record Numbered (s : List ℕ) (at value stop : ℕ) : Type 0 where
+  pub fits : value ≤ max_word
+  pub parts : drop at s ≡ digits (Value value) ++ drop stop s
+  pub within : stop ≤ length s
+  pub only : (n : ℕ) (t : List ℕ) → n ≤ max_word → drop at s ≡ digits (Value n) ++ t → head_digit t ≡ false → (value ≡ n) × (drop stop s ≡ t)
+
+-- no number's digits stand there with no digit behind them
+abbrev pub NoNumber : List ℕ → ℕ → Type 0
+NoNumber s at = (n : ℕ) (t : List ℕ) → n ≤ max_word → drop at s ≡ digits (Value n) ++ t → head_digit t ≡ false → ⊥
+
+abbrev pub NumberAt : List ℕ → ℕ → Option Numeral → Type 0
+NumberAt s at r = MatchOption r (NoNumber s at) (λ (x : Numeral). Numbered s at x.value x.end)
 
 -- the same with the byte b behind them, and `next` behind it
-pub record Fielded (s : List ℕ) (at b : ℕ) (good : Bool) (value next : ℕ) : Type 0 where
-  pub fits : good ≡ true → value ≤ max_word
-  pub parts : good ≡ true → drop at s ≡ digits (Value value) ++ (b ∷ drop next s)
-  pub within : good ≡ true → next ≤ length s
-  pub only : (n : ℕ) (t : List ℕ) → n ≤ max_word → drop at s ≡ digits (Value n) ++ (b ∷ t) →
-      (good ≡ true) × (value ≡ n) × (drop next s ≡ t)
+pub record Fielded (s : List ℕ) (at b value next : ℕ) : Type 0 where
+  pub fits : value ≤ max_word
+  pub parts : drop at s ≡ digits (Value value) ++ (b ∷ drop next s)
+  pub within : next ≤ length s
+  pub only : (n : ℕ) (t : List ℕ) → n ≤ max_word → drop at s ≡ digits (Value n) ++ (b ∷ t) → (value ≡ n) × (drop next s ≡ t)
+
+abbrev pub NoField : List ℕ → ℕ → ℕ → Type 0
+NoField s at b = (n : ℕ) (t : List ℕ) → n ≤ max_word → drop at s ≡ digits (Value n) ++ (b ∷ t) → ⊥
+
+abbrev pub FieldAt : List ℕ → ℕ → ℕ → Option Numeral → Type 0
+FieldAt s at b r = MatchOption r (NoField s at b) (λ (x : Numeral). Fielded s at b x.value x.end)
 
 -- the same with nothing behind them
-pub record Last (s : List ℕ) (at : ℕ) (good : Bool) (value : ℕ) : Type 0 where
-  pub fits : good ≡ true → value ≤ max_word
-  pub parts : good ≡ true → drop at s ≡ digits (Value value)
-  pub only : (n : ℕ) → n ≤ max_word → drop at s ≡ digits (Value n) → good ≡ true
+pub record Last (s : List ℕ) (at value : ℕ) : Type 0 where
+  pub fits : value ≤ max_word
+  pub parts : drop at s ≡ digits (Value value)
+
+abbrev pub NoLast : List ℕ → ℕ → Type 0
+NoLast s at = (n : ℕ) → n ≤ max_word → drop at s ≡ digits (Value n) → ⊥
+
+abbrev pub LastAt : List ℕ → ℕ → Option ℕ → Type 0
+LastAt s at r = MatchOption r (NoLast s at) (λ v. Last s at v)

@@ -6,16 +6,13 @@ ghost use Rattle.std.specs.Prelude.{◌≡◌, ◌≤◌, false, length, drop};
 ghost use Rattle.text.specs.Numbers.{is_digit};
 ghost use Rattle.journal.specs.Lines.{step_of};
 ghost use Rattle.entries.specs.Said.{said};
-ghost use Rattle.entries.specs.Scan.{start_word, finish_word, head_is, head_digit, Begins, Capped, Run, Long, Numbered, Fielded, Last};
+ghost use Rattle.entries.specs.Scan.{start_word, finish_word, head_is, head_digit, Begins, Run, Long, NumberAt, FieldAt, LastAt};
 
-use text::{same, wide};
-
-// What a line says.
-#[derive(Clone, Copy)]
+// What a line says that is a step.
+#[derive(Clone, Copy, PartialEq, Eq, Debug)]
 pub enum Entry {
     Start { item: u64, word: u64 },
     Finish { item: u64 },
-    Unreadable,
 }
 
 // What digits write, and how many they are.
@@ -25,20 +22,12 @@ struct Digits {
     size: usize,
 }
 
-// The number at an offset, and the offset behind it; no number in form, or one above the largest
-// word, where it is not good.
+// A number, and the offset behind it.
 #[derive(Clone, Copy)]
 struct Numeral {
-    good: bool,
     value: u64,
     end: usize,
 }
-
-const NONE: Numeral = Numeral {
-    good: false,
-    value: 0,
-    end: 0,
-};
 
 // Whether the byte at i is b: not beyond the end.
 fn is_at(s: &[u8], i: usize, b: u8) -> bool
@@ -57,17 +46,7 @@ fn digit_at(s: &[u8], i: usize) -> bool
     if s.len() <= i {
         return false;
     }
-    (48 <= s[i]) & (s[i] <= 57)
-}
-
-// n, but at most 19.
-fn capped(n: usize) -> usize
-    ensures { Capped n result }
-{
-    if n < 19 {
-        return n;
-    }
-    19
+    (b'0' <= s[i]) & (s[i] <= b'9')
 }
 
 // The digits from `at` on, 19 at most: a word holds any such number, so no digit needs a test.
@@ -75,157 +54,122 @@ fn digits_at(s: &[u8], at: usize) -> Digits
     requires { at ≤ length s.now }
     ensures { Run s.now at result.value result.size }
 {
-    let room = capped(s.len() - at);
+    let room = (s.len() - at).min(19);
     let mut value: u64 = 0;
-    let mut size = 0;
-    while size < room {
-        let digit = std::num::wrapping_sub_u64(wide(s[at + size]), 48);
+    for size in 0..room {
+        let digit = std::num::wrapping_sub_u64(u64::from(s[at + size]), 48);
         if 9 < digit {
             return Digits { value, size };
         }
         value = value * 10 + digit;
-        size += 1;
     }
-    Digits { value, size }
+    Digits { value, size: room }
 }
 
 // The number whose first 19 digits stand from `at` to `end` and write `most`. Only the last of 20
 // digits can lead above the largest word.
-fn long_number(s: &[u8], at: usize, end: usize, most: u64) -> Numeral
+fn long_number(s: &[u8], at: usize, end: usize, most: u64) -> Option<Numeral>
     requires { Long s.now at most end }
-    ensures { Numbered s.now at result.good result.value result.end }
+    ensures { NumberAt s.now at result }
 {
     if !digit_at(s, end) {
-        return Numeral {
-            good: true,
-            value: most,
-            end,
-        };
+        return Some(Numeral { value: most, end });
     }
     if digit_at(s, end + 1) {
-        return NONE;
+        return None;
     }
-    let last = wide(s[end] - 48);
-    if (18446744073709551615 - last) / 10 < most {
-        return NONE;
+    let last = u64::from(s[end] - b'0');
+    if (u64::MAX - last) / 10 < most {
+        return None;
     }
-    Numeral {
-        good: true,
+    Some(Numeral {
         value: most * 10 + last,
         end: end + 1,
-    }
+    })
 }
 
 // The number at an offset: 1 to 20 digits, with no leading zero except 0 itself, and at most the
 // largest word.
-fn number_at(s: &[u8], at: usize) -> Numeral
+fn number_at(s: &[u8], at: usize) -> Option<Numeral>
     requires { at ≤ length s.now }
-    ensures { Numbered s.now at result.good result.value result.end }
+    ensures { NumberAt s.now at result }
 {
-    let run = digits_at(s, at);
-    let size = run.size;
+    let Digits { value, size } = digits_at(s, at);
     let end = at + size;
     if size == 0 {
-        return NONE;
+        return None;
     }
     if size == 1 {
-        return Numeral {
-            good: true,
-            value: run.value,
-            end,
-        };
+        return Some(Numeral { value, end });
     }
-    if s[at] == 48 {
-        return NONE;
+    if s[at] == b'0' {
+        return None;
     }
     if size < 19 {
-        return Numeral {
-            good: true,
-            value: run.value,
-            end,
-        };
+        return Some(Numeral { value, end });
     }
-    long_number(s, at, end, run.value)
+    long_number(s, at, end, value)
 }
 
 // The number at an offset with the byte b behind it, and the offset behind that.
-fn field_at(s: &[u8], at: usize, b: u8) -> Numeral
+fn field_at(s: &[u8], at: usize, b: u8) -> Option<Numeral>
     requires { (at ≤ length s.now) × (is_digit b ≡ false) }
-    ensures { Fielded s.now at b result.good result.value result.end }
+    ensures { FieldAt s.now at b result }
 {
-    let number = number_at(s, at);
-    if !number.good {
-        return NONE;
-    }
-    let end = number.end;
+    let Numeral { value, end } = number_at(s, at)?;
     if !is_at(s, end, b) {
-        return NONE;
+        return None;
     }
-    Numeral {
-        good: true,
-        value: number.value,
+    Some(Numeral {
+        value,
         end: end + 1,
-    }
+    })
 }
 
 // The number at an offset that ends the line.
-fn last_at(s: &[u8], at: usize) -> Numeral
+fn last_at(s: &[u8], at: usize) -> Option<u64>
     requires { at ≤ length s.now }
-    ensures { Last s.now at result.good result.value }
+    ensures { LastAt s.now at result }
 {
-    let number = number_at(s, at);
-    if !number.good {
-        return NONE;
+    let Numeral { value, end } = number_at(s, at)?;
+    if end != s.len() {
+        return None;
     }
-    if number.end != s.len() {
-        return NONE;
-    }
-    number
+    Some(value)
 }
 
 // What a line says that begins with `start` and a tab.
-fn start_of(line: &[u8]) -> Entry
+fn start_of(line: &[u8]) -> Option<Entry>
     requires { Begins line.now 6 start_word }
     ensures { said result ≡ step_of line.now }
 {
-    let item = field_at(line, 6, 9);
-    if !item.good {
-        return Entry::Unreadable;
-    }
-    let word = last_at(line, item.end);
-    if !word.good {
-        return Entry::Unreadable;
-    }
-    Entry::Start {
-        item: item.value,
-        word: word.value,
-    }
+    let Numeral { value: item, end } = field_at(line, 6, b'\t')?;
+    let word = last_at(line, end)?;
+    Some(Entry::Start { item, word })
 }
 
 // What a line says that begins with `finish` and a tab.
-fn finish_of(line: &[u8]) -> Entry
+fn finish_of(line: &[u8]) -> Option<Entry>
     requires { Begins line.now 7 finish_word }
     ensures { said result ≡ step_of line.now }
 {
-    let item = last_at(line, 7);
-    if !item.good {
-        return Entry::Unreadable;
-    }
-    Entry::Finish { item: item.value }
+    let item = last_at(line, 7)?;
+    Some(Entry::Finish { item })
 }
 
-// What a line says, handed in without its line feed. A line in form is longer than its word.
-pub fn entry_of(line: &[u8]) -> Entry
+// What a line says, handed in without its line feed: nothing where it is no step. A line in form is
+// longer than its word.
+pub fn entry_of(line: &[u8]) -> Option<Entry>
     ensures { said result ≡ step_of line.now }
 {
     if line.len() < 7 {
-        return Entry::Unreadable;
+        return None;
     }
-    if same(&line[..6], b"start\t") {
+    if &line[..6] == b"start\t".as_slice() {
         return start_of(line);
     }
-    if same(&line[..7], b"finish\t") {
+    if &line[..7] == b"finish\t".as_slice() {
         return finish_of(line);
     }
-    Entry::Unreadable
+    None
 }

@@ -1,5 +1,5 @@
 -- The scan's tests are those of Form.
-use Rattle.std.proofs.Common.{◌≡◌, ℕ, zero, suc, ◌+◌, ◌-◌, ◌*◌, ◌/◌, ◌%◌, ◌<◌, ◌≤◌, Bool, true, false, not, ◌&&◌, eqb, ltb, leb, List, length, replicate, sym, refl, ap, ◌∙◌, ⊎_elim, arith, le-ltb, lt-ltb, eq-eqb, ne_eqb, eqb-true, le-leb, leb-true}
+use Rattle.std.proofs.Common.{◌≡◌, ℕ, zero, suc, ◌+◌, ◌-◌, ◌*◌, ◌/◌, ◌%◌, ◌<◌, ◌≤◌, Bool, true, false, not, ◌&&◌, eqb, ltb, leb, List, replicate, sym, refl, ap, ◌∙◌, ⊎_elim, arith, le-ltb, lt-ltb, eq-eqb, ne_eqb, eqb-true, le-leb, leb-true, Some, None}
 use mathlib.Core.Bool.{or-true}
 use native.Mathlib.Decide.{dec_lt}
 use borrow.Author.Tests.{not-true, not-false}
@@ -9,12 +9,11 @@ use Rattle.finite.proofs.Tests.{not_both, test_ext, and-true, and_intro, or_righ
 use Rattle.finite.proofs.Below.{all_at, all_of, any_at, any_never}
 use Rattle.kernels.proofs.Laws.{suits_kernel}
 use Rattle.plan.specs.Limits.{max_passes, max_ranks, max_regions, max_tasks, max_accesses, max_kernel}
-use Rattle.plan.specs.Layout.{at, passes_of, ranks_of, regions_of, tasks_of, starting_of, rank_of, kernel_of, accesses_of, access_at, region_at, plan_words, rank_index, task_words, access_end}
+use Rattle.plan.specs.Layout.{at, passes_of, ranks_of, regions_of, tasks_of, starting_of, rank_of, kernel_of, accesses_of, access_at, region_at, rank_index, task_words, access_end}
 use Rattle.plan.specs.Form.{counts_ok, value_ok, access_ok, rest_ok, used_ok, unused_ok, task_ok, words_ok, words_within}
 use Rattle.plan.proofs.Facts.{Formed, formed}
 use Rattle.form.specs.Changes.{names, change_count}
-use Rattle.form.specs.declared.words.Checked.{Checked}
-use Rattle.form.specs.Scan.{Keeps, mark, kept, fresh_ok, fresh_all_ok, head_ok, reads_ok, scan_ok, absent_ok, behind_ok, tasks_scan_ok, behind_regions_ok, half, pair_ok, behind_tasks_ok, Open, Scanned, Answer}
+use Rattle.form.specs.Scan.{mark, kept, fresh_ok, fresh_all_ok, head_ok, reads_ok, scan_ok, absent_ok, behind_ok, tasks_scan_ok, behind_regions_ok, half, pair_ok, behind_tasks_ok, Open, Scanned, Answer}
 use Rattle.form.proofs.Rest.{rest_at}
 
 module _ (w : List ℕ) where
@@ -182,47 +181,34 @@ module _ (w : List ℕ) where
       (all_of (behind_ok w) max_regions (absent_of_form F))
       (all_of (pair_ok w) (half w) (pair_of_form F))))
 
-  -- the answers: t that of the test of the counts, s, n and l those of the scan of the tasks
+  -- the answers: t that of the test of the counts, n and l those of the scan of the tasks
 
-  pub open_of : (t : Bool) → plan_words ≤ length w → t ≡ counts_ok w → not t ≡ false → Open w 0 (replicate max_regions 0)
+  pub open_of : (t : Bool) → t ≡ counts_ok w → not t ≡ false → Open w 0 (replicate max_regions 0)
   unfolding kept
-  open_of t b e z =
+  open_of t e z =
       let k = counted (sym e ∙ not-false t z) in
       record {
-        size = b;
         tasks = k.tasks;
         most = k.ranks;
         ranks = λ j l. absurd (omega arith);
         keeps = record { size = length-replicate {A = ℕ} max_regions 0; word = λ g m. get_or-replicate {A = ℕ} max_regions g 0 0 m };
       }
 
-  pub regions_most : (t : Bool) → t ≡ counts_ok w → not t ≡ false → regions_of w ≤ max_regions
-  regions_most t e z = (counted (sym e ∙ not-false t z)).regions
-
-  pub tasks_most : (t : Bool) → t ≡ counts_ok w → not t ≡ false → tasks_of w ≤ max_tasks
-  tasks_most t e z = (counted (sym e ∙ not-false t z)).tasks
-
-  answer_not : (r : Checked) → r ≡ record { ok = false; changes = 0 } → words_ok w ≡ false → Answer w r.ok r.changes
-  answer_not r f e = rw f (record { formed = sym e; counts = refl })
-
-  pub answer_counts : (t : Bool) (r : Checked) → t ≡ counts_ok w → not t ≡ true → r ≡ record { ok = false; changes = 0 } → Answer w r.ok r.changes
+  pub answer_counts : (t : Bool) → t ≡ counts_ok w → not t ≡ true → Answer w None
   unfolding words_within
-  answer_counts t r e z f = answer_not r f (rw (sym e ∙ not-true t z))
+  answer_counts t e z = rw (sym e ∙ not-true t z)
 
-  module _ (t : Bool) (e : t ≡ counts_ok w) (z : not t ≡ false) (s : Bool) (n : ℕ) (l : List ℕ) (k : Scanned (tasks_scan_ok w) (change_count w) (kept w (tasks_of w)) s n l) where
-    pub tasks_keep : not s ≡ false → Keeps (kept w (tasks_of w)) l
-    tasks_keep y = k.keeps (not-false s y)
-
-    pub answer_tasks : (r : Checked) → not s ≡ true → r ≡ record { ok = false; changes = 0 } → Answer w r.ok r.changes
-    answer_tasks r y f = answer_not r f (sym (agrees (sym e ∙ not-false t z)) ∙ rw (sym k.tested ∙ not-true s y))
+  module _ (t : Bool) (e : t ≡ counts_ok w) (z : not t ≡ false) where
+    pub answer_tasks : tasks_scan_ok w ≡ false → Answer w None
+    answer_tasks s = sym (agrees (sym e ∙ not-false t z)) ∙ rw s
 
     -- b and c answer the tests of what lies behind the regions and behind the tasks
-    module _ (b c : Bool) (p : b ≡ behind_regions_ok w) (q : c ≡ behind_tasks_ok w) (y : not s ≡ false) where
+    module _ (b c : Bool) (p : b ≡ behind_regions_ok w) (q : c ≡ behind_tasks_ok w) (n : ℕ) (l : List ℕ) (k : Scanned (tasks_scan_ok w) (change_count w) (kept w (tasks_of w)) (Some n) l) where
       found : (b && c) ≡ words_ok w
-      found = rw (p, q) (sym (ap (λ (u : Bool). u && (behind_regions_ok w && behind_tasks_ok w)) (sym k.tested ∙ not-false s y)) ∙ agrees (sym e ∙ not-false t z))
+      found = rw (p, q) (sym (ap (λ (u : Bool). u && (behind_regions_ok w && behind_tasks_ok w)) k.0) ∙ agrees (sym e ∙ not-false t z))
 
-      pub answer_behind : (r : Checked) → not (b && c) ≡ true → r ≡ record { ok = false; changes = 0 } → Answer w r.ok r.changes
-      answer_behind r h f = answer_not r f (sym found ∙ not-true (b && c) h)
+      pub answer_behind : not (b && c) ≡ true → Answer w None
+      answer_behind h = sym found ∙ not-true (b && c) h
 
-      pub answer_fine : not (b && c) ≡ false → Answer w s n
-      answer_fine h = record { formed = not-false s y ∙ (sym (not-false (b && c) h) ∙ found); counts = k.counts }
+      pub answer_fine : not (b && c) ≡ false → Answer w (Some n)
+      answer_fine h = (sym found ∙ not-false (b && c) h, k.1)

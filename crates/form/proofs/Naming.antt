@@ -1,23 +1,17 @@
 -- Laws of the words that the scan keeps for the regions, and of a scan of one task's accesses:
 -- _none, _same, _changed and _done are a loop's, before its first turn, over a turn, and after its
 -- last.
-use Rattle.std.proofs.Common.{◌≡◌, ℕ, zero, suc, ◌+◌, ◌*◌, ◌%◌, ◌^◌, ◌<◌, ◌≤◌, Bool, true, false, cond, not, ◌&&◌, eqb, ltb, List, get_or, set, sym, refl, ap, ◌∙◌, subst, ⊎_elim, arith, length-set, get_or-set_other, get_or-set_same, le-ltb, lt-ltb, eq-eqb, ne_eqb}
+use Rattle.std.proofs.Common.{◌≡◌, ℕ, zero, suc, ◌+◌, ◌*◌, ◌%◌, ◌^◌, ◌<◌, ◌≤◌, Bool, true, false, cond, not, ◌&&◌, eqb, ltb, List, get_or, set, sym, refl, ap, ◌∙◌, subst, ⊎_elim, arith, length-set, get_or-set_other, get_or-set_same, le-ltb, lt-ltb, eq-eqb, ne_eqb, Option, Some, None}
 use mathlib.Core.Bool.{and-false, or-false}
 use mathlib.Core.Option.{none, some}
 use native.Mathlib.Decide.{ℕ_discrete}
 use Rattle.finite.specs.Below.{all_below, any_below, count_below}
-use Rattle.finite.proofs.Tests.{true_or_false, not_both, eqb_comm}
+use Rattle.finite.proofs.Tests.{true_or_false, eqb_comm}
 use Rattle.finite.proofs.Below.{all_none, all_next, all_fails, all_not, any_next, any_ext, count_none, count_next}
 use Rattle.plan.specs.Limits.{max_ranks, max_regions, max_tasks}
 use Rattle.plan.specs.Layout.{rank_of, accesses_of, access_at, region_at, access_region, access_end}
 use Rattle.form.specs.Changes.{names, last_rank, changed}
-use Rattle.form.specs.declared.words.Checked.{Checked}
 use Rattle.form.specs.Scan.{Keeps, mark, kept, kept_in, fresh_ok, fresh_all_ok, changes_of, Ready, Scanned}
-
--- what is refused
-pub scanned_not : (test : Bool) (count : ℕ) (f : ℕ → ℕ) (r : Checked) (l : List ℕ) → r ≡ record { ok = false; changes = 0 } → test ≡ false
-    → Scanned test count f r.ok r.changes l
-scanned_not test count f r l e q = rw e (record { tested = sym q; counts = refl; keeps = λ t. absurd (not_both t refl) })
 
 -- a word stored at g
 pub keeps_set : (f h : ℕ → ℕ) (l : List ℕ) (g v : ℕ) → Keeps f l → g < max_regions → h g ≡ v → ((k : ℕ) → (k ≡ g → ⊥) → h k ≡ f k) → Keeps h (set l g v)
@@ -82,8 +76,8 @@ module _ (w : List ℕ) where
         (true_or_false (named_in i a (region_at w i a)))
 
   -- what a scan of the accesses of task i answers
-  abbrev Passed : ℕ → Bool → ℕ → List ℕ → Type 0
-  Passed i ok n l = Scanned (fresh_all_ok w i) (changes_of w i) (kept w (suc i)) ok n l
+  abbrev Passed : ℕ → Option ℕ → List ℕ → Type 0
+  Passed i r l = Scanned (fresh_all_ok w i) (changes_of w i) (kept w (suc i)) r l
 
   -- before access a of task i: no access was bad, n were changes, and l is up to date
   pub record Naming (i a n : ℕ) (l : List ℕ) : Type 0 where
@@ -95,22 +89,21 @@ module _ (w : List ℕ) where
   unfolding any_below
   naming_none i l k = record { fresh = all_none (fresh_ok w i); counts = count_none (changed w i); keeps = record { size = k.size; word = k.word } }
 
-  pub naming_done : (i a n : ℕ) (l : List ℕ) → Naming i a n l → accesses_of w i ≤ a → a ≤ accesses_of w i → Passed i true n l
+  pub naming_done : (i a n : ℕ) (l : List ℕ) → Naming i a n l → accesses_of w i ≤ a → a ≤ accesses_of w i → Passed i (Some n) l
   unfolding kept
   naming_done i a n l k p q =
-      let e : a ≡ accesses_of w i = omega arith in
-      record {
-        tested = k.fresh ∙ ap (λ (m : ℕ). all_below m (fresh_ok w i)) e;
-        counts = k.counts ∙ ap (λ (m : ℕ). count_below m (changed w i)) e;
-        keeps = λ _. record { size = k.keeps.size; word = λ g m. k.keeps.word g m ∙ ap (λ (b : ℕ). kept_in w i b g) e };
-      }
+      let e : a ≡ accesses_of w i = omega arith in (
+        sym (k.fresh ∙ ap (λ (m : ℕ). all_below m (fresh_ok w i)) e),
+        k.counts ∙ ap (λ (m : ℕ). count_below m (changed w i)) e,
+        record { size = k.keeps.size; word = λ g m. k.keeps.word g m ∙ ap (λ (b : ℕ). kept_in w i b g) e },
+      )
 
   -- access a is bad
-  named_not : (i a : ℕ) (r : Checked) (l : List ℕ) → r ≡ record { ok = false; changes = 0 } → a < accesses_of w i → fresh_ok w i a ≡ false → Passed i r.ok r.changes l
-  named_not i a r l f b e = scanned_not _ _ _ r l f (all_fails (fresh_ok w i) (accesses_of w i) a b e)
+  named_not : (i a : ℕ) (l : List ℕ) → a < accesses_of w i → fresh_ok w i a ≡ false → Passed i None l
+  named_not i a l b e = all_fails (fresh_ok w i) (accesses_of w i) a b e
 
-  pub naming_wide : (i a : ℕ) (r : Checked) (l : List ℕ) → r ≡ record { ok = false; changes = 0 } → a < accesses_of w i → access_end ≤ access_at w i a → Passed i r.ok r.changes l
-  naming_wide i a r l f b h = named_not i a r l f b (rw (le-ltb (access_at w i a) access_end h))
+  pub naming_wide : (i a : ℕ) (l : List ℕ) → a < accesses_of w i → access_end ≤ access_at w i a → Passed i None l
+  naming_wide i a l b h = named_not i a l b (rw (le-ltb (access_at w i a) access_end h))
 
   naming_more : (i a n m : ℕ) (l : List ℕ) → Naming i a n l → access_at w i a < access_end → named_in i a (region_at w i a) ≡ false
       → m ≡ n + cond (changed w i a) 1 0 → Naming i (a + 1) m (set l (region_at w i a) (mark w i))
@@ -141,10 +134,10 @@ module _ (w : List ℕ) where
         look i a since ready.task ready.rank ready.ranks fits
         (ap (λ (b : ℕ). (since + b) % 2 ^ 64) (sym x) ∙ (e ∙ (k.keeps.word g (omega arith) ∙ ap (kept_in w i a) at_region)))
 
-    pub naming_twice : (r : Checked) → r ≡ record { ok = false; changes = 0 } → a < accesses_of w i → since ≡ i → Passed i r.ok r.changes l
-    naming_twice r f b z =
+    pub naming_twice : a < accesses_of w i → since ≡ i → Passed i None l
+    naming_twice b z =
         elim looked [
-          | twice p q ↦ (named_not i a r l f b (fresh_named i a ∙ rw q (and-false (ltb (access_at w i a) access_end))))
+          | twice p q ↦ (named_not i a l b (fresh_named i a ∙ rw q (and-false (ltb (access_at w i a) access_end))))
           | same p q r ↦ absurd (omega arith)
           | other p q r ↦ absurd (omega arith)
         ]

@@ -1,11 +1,11 @@
--- Laws of the words that have to be 0: _none, _more, _not and _done are a loop's, before its first
--- turn, over a turn, at a word that is not 0, and after its last.
+-- Laws of the words that have to be 0: _none, _more and _not are a loop's, before its first turn,
+-- over a turn, and at a word that is not 0.
 use Rattle.std.proofs.Common.{◌≡◌, ℕ, ◌+◌, ◌-◌, ◌*◌, ◌<◌, ◌≤◌, Bool, true, false, ◌&&◌, ◌||◌, eqb, ltb, List, get_or, sym, refl, ap, ◌∙◌, arith, le-ltb, lt-ltb, eq-eqb, ne_eqb, eqb-true}
 use mathlib.Core.Bool.{or-true}
 use lib.Bits.{bit_or, or_add_and, and_le_l, and_le_r}
 use Rattle.finite.specs.Below.{all_below}
 use Rattle.finite.proofs.Tests.{test_ext, and-true, and_intro}
-use Rattle.finite.proofs.Below.{all_more, all_of, all_done, all_fails}
+use Rattle.finite.proofs.Below.{all_more, all_of, all_fails}
 use Rattle.plan.specs.Limits.{max_regions, max_tasks, max_accesses}
 use Rattle.plan.specs.Layout.{at, regions_of, tasks_of, starting_of, accesses_of, access_at, rank_index}
 use Rattle.plan.specs.Form.{rest_ok}
@@ -52,6 +52,3 @@ module _ (w : List ℕ) (i : ℕ) where
 
   pub rest_not : (a x : ℕ) → a < max_accesses → accesses_of w i ≤ a → x ≡ access_at w i a → (x ≡ 0 → ⊥) → false ≡ rest_ok w i
   rest_not a x l h e n = sym (all_fails rest_at max_accesses a l (rw (le-ltb a (accesses_of w i) h, ne_eqb (access_at w i a) 0 (λ z. n (omega arith)))))
-
-  pub rest_done : (a : ℕ) → true ≡ all_below a rest_at → max_accesses ≤ a → a ≤ max_accesses → true ≡ rest_ok w i
-  rest_done a h p q = all_done rest_at max_accesses a true h p q

@@ -1,6 +1,6 @@
 -- Laws of the scan of the tasks: _none, _more, _not and _done are a loop's, before its first turn,
 -- over a turn, at a task that is not in form, and after its last.
-use Rattle.std.proofs.Common.{◌≡◌, ℕ, suc, ◌+◌, ◌*◌, ◌<◌, ◌≤◌, Bool, true, false, not, ltb, leb, List, sym, refl, ◌∙◌, add-one, arith, ltb-true, leb-true}
+use Rattle.std.proofs.Common.{◌≡◌, ℕ, suc, ◌+◌, ◌*◌, ◌<◌, ◌≤◌, Bool, true, false, not, ltb, leb, List, sym, refl, ◌∙◌, add-one, arith, ltb-true, leb-true, Option, Some, None}
 use mathlib.Core.Bool.{and-false}
 use borrow.Author.Tests.{not-true, not-false}
 use Rattle.finite.specs.Below.{all_below, sum_below}
@@ -8,26 +8,27 @@ use Rattle.finite.proofs.Tests.{and-true, not_both}
 use Rattle.finite.proofs.Below.{below_suc, all_none, all_more, all_done, all_fails, count_le, sum_none, sum_more, sum_done}
 use Rattle.kernels.specs.declared.Permitted.TheVariants.{Any, Exactly, AtLeast}
 use Rattle.kernels.specs.declared.Kernel.{Kernel}
-use Rattle.kernels.specs.declared.Kernel.TheVariants.{Known, Unknown}
-use Rattle.kernels.specs.Kernels.{kernel_by, permits, suits}
+use Rattle.kernels.specs.declared.Permitted.{Permitted}
+use Rattle.kernels.specs.Kernels.{kernel_by, permits, allowed, suits}
 use Rattle.kernels.proofs.Laws.{suits_by}
 use Rattle.plan.specs.Limits.{max_ranks, max_accesses}
 use Rattle.plan.specs.Layout.{ranks_of, tasks_of, rank_of, accesses_of}
 use Rattle.plan.specs.Form.{rest_ok}
 use Rattle.form.specs.Changes.{changed, change_count}
-use Rattle.form.specs.declared.words.Checked.{Checked}
-use Rattle.form.specs.Scan.{kept, fresh_all_ok, changes_of, head_ok, takes_any, reads_ok, scan_ok, tasks_scan_ok, Open, Ready, Scanned}
-use Rattle.form.proofs.Naming.{scanned_not}
+use Rattle.form.specs.Scan.{kept, fresh_all_ok, changes_of, head_ok, any_reads, takes_any, reads_ok, scan_ok, tasks_scan_ok, Open, Scanned}
 
 -- the reads of a kernel that takes any need not be counted
 pub suits_any : (k n : ℕ) → takes_any (kernel_by k) ≡ true → true ≡ suits k n
 suits_any k n h = any_permits (kernel_by k) h ∙ suits_by k n (kernel_by k) refl
   where
-    any_permits : (x : Kernel) → takes_any x ≡ true → true ≡ permits x n
-    any_permits (Known f Any) h = refl
-    any_permits (Known f (Exactly m)) h = absurd (not_both h refl)
-    any_permits (Known f (AtLeast m)) h = absurd (not_both h refl)
-    any_permits Unknown h = absurd (not_both h refl)
+    any_allows : (p : Permitted) → any_reads p ≡ true → true ≡ allowed p n
+    any_allows Any h = refl
+    any_allows (Exactly m) h = absurd (not_both h refl)
+    any_allows (AtLeast m) h = absurd (not_both h refl)
+
+    any_permits : (x : Option Kernel) → takes_any x ≡ true → true ≡ permits x n
+    any_permits (Some kernel) h = any_allows kernel.permitted h
+    any_permits None h = absurd (not_both h refl)
 
 module _ (w : List ℕ) where
   pub record Head (i : ℕ) : Type 0 where
@@ -39,51 +40,34 @@ module _ (w : List ℕ) where
       let a = and-true (ltb (rank_of w i) (ranks_of w)) (leb (accesses_of w i) max_accesses) h in
       record { rank = ltb-true _ _ a.0; few = leb-true _ _ a.1 }
 
-  -- one task: a test answered t
-
-  pub ready_of : (i : ℕ) (l : List ℕ) (t : Bool) → Open w i l → i < tasks_of w → t ≡ head_ok w i → not t ≡ false → Ready w i l
-  ready_of i l t o b e n =
-      let h = head_of i (sym e ∙ not-false t n) in
-      record { size = o.size; task = omega (arith, o.tasks); few = h.few; rank = omega (arith, h.rank, o.most); ranks = o.ranks; keeps = o.keeps }
-
-  pub few_of : (i : ℕ) (t : Bool) → t ≡ head_ok w i → not t ≡ false → accesses_of w i ≤ 8
-  few_of i t e n = (head_of i (sym e ∙ not-false t n)).few
-
   -- what a scan of task i answers
-  abbrev pub Task : ℕ → Bool → ℕ → List ℕ → Type 0
-  Task i ok n l = Scanned (scan_ok w i) (changes_of w i) (kept w (suc i)) ok n l
+  abbrev pub Task : ℕ → Option ℕ → List ℕ → Type 0
+  Task i r l = Scanned (scan_ok w i) (changes_of w i) (kept w (suc i)) r l
 
-  module _ (i : ℕ) (r : Checked) (l : List ℕ) (f : r ≡ record { ok = false; changes = 0 }) (t : Bool) (z : not t ≡ true) where
-    pub task_head : t ≡ head_ok w i → Task i r.ok r.changes l
+  module _ (i : ℕ) (l : List ℕ) where
+    pub task_fresh : fresh_all_ok w i ≡ false → Task i None l
     unfolding scan_ok
-    task_head e = scanned_not _ _ _ r l f (rw (← e, not-true t z))
+    task_fresh e = rw e (and-false (head_ok w i))
 
-    pub task_fresh : t ≡ fresh_all_ok w i → Task i r.ok r.changes l
-    unfolding scan_ok
-    task_fresh e = scanned_not _ _ _ r l f (rw (← e, not-true t z) (and-false (head_ok w i)))
+    module _ (t : Bool) (z : not t ≡ true) where
+      pub task_head : t ≡ head_ok w i → Task i None l
+      unfolding scan_ok
+      task_head e = rw (← e, not-true t z)
 
-    pub task_rest : t ≡ rest_ok w i → Task i r.ok r.changes l
-    unfolding scan_ok
-    task_rest e = scanned_not _ _ _ r l f (rw (← e, not-true t z, and-false (fresh_all_ok w i)) (and-false (head_ok w i)))
+      pub task_rest : t ≡ rest_ok w i → Task i None l
+      unfolding scan_ok
+      task_rest e = rw (← e, not-true t z, and-false (fresh_all_ok w i)) (and-false (head_ok w i))
 
-    pub task_reads : t ≡ reads_ok w i → Task i r.ok r.changes l
-    unfolding scan_ok
-    task_reads e = scanned_not _ _ _ r l f (rw (← e, not-true t z, and-false (rest_ok w i), and-false (fresh_all_ok w i)) (and-false (head_ok w i)))
+      pub task_reads : t ≡ reads_ok w i → Task i None l
+      unfolding scan_ok
+      task_reads e = rw (← e, not-true t z, and-false (rest_ok w i), and-false (fresh_all_ok w i)) (and-false (head_ok w i))
 
   -- all tests hold
-  pub task_fine : (i : ℕ) (h f r s : Bool) (n : ℕ) (l : List ℕ) → h ≡ head_ok w i → not h ≡ false → Scanned (fresh_all_ok w i) (changes_of w i) (kept w (suc i)) f n l → not f ≡ false
-      → r ≡ rest_ok w i → not r ≡ false → s ≡ reads_ok w i → not s ≡ false → Task i f n l
+  pub task_fine : (i : ℕ) (h r s : Bool) (n : ℕ) (l : List ℕ) → h ≡ head_ok w i → not h ≡ false → Scanned (fresh_all_ok w i) (changes_of w i) (kept w (suc i)) (Some n) l
+      → r ≡ rest_ok w i → not r ≡ false → s ≡ reads_ok w i → not s ≡ false → Task i (Some n) l
   unfolding scan_ok
-  task_fine i h f r s n l a a' b b' c c' d d' =
-      record {
-        tested = not-false f b' ∙ sym (rw (sym a ∙ not-false h a', sym b.tested ∙ not-false f b', sym c ∙ not-false r c') (sym d ∙ not-false s d'));
-        counts = b.counts;
-        keeps = b.keeps;
-      }
-
-  -- the count of a test that holds
-  scanned_count : (test : Bool) (count : ℕ) (f : ℕ → ℕ) (ok : Bool) (n : ℕ) (l : List ℕ) → Scanned test count f ok n l → ok ≡ true → n ≡ count
-  scanned_count test count f ok n l s h = s.counts ∙ rw h
+  task_fine i h r s n l a a' b c c' d d' =
+      (rw (sym a ∙ not-false h a', b.0, sym c ∙ not-false r c') (sym d ∙ not-false s d'), b.1, b.2)
 
   -- all tasks
 
@@ -100,43 +84,36 @@ module _ (w : List ℕ) where
   unfolding scan_ok
   scan_head i h = head_of i (and-true (head_ok w i) _ h).0
 
-  pub task_few : (i c : ℕ) (ok : Bool) (m : List ℕ) → Task i ok c m → not ok ≡ false → c ≤ 8
-  task_few i c ok m t z =
-      let s = not-false ok z in
-      omega (arith, scanned_count _ _ _ ok c m t s, count_le (changed w i) (accesses_of w i), (scan_head i (sym t.tested ∙ s)).few)
+  pub task_few : (i c : ℕ) (m : List ℕ) → Task i (Some c) m → c ≤ 8
+  task_few i c m t = omega (arith, t.1, count_le (changed w i) (accesses_of w i), (scan_head i t.0).few)
 
-  pub scanning_more : (i n c : ℕ) (ok : Bool) (l m : List ℕ) → Scanning i n l → Task i ok c m → not ok ≡ false → Scanning (i + 1) (n + c) m
-  scanning_more i n c ok l m k t z =
-      let s = not-false ok z in
-      let e = sym t.tested ∙ s in
+  pub scanning_more : (i n c : ℕ) (l m : List ℕ) → Scanning i n l → Task i (Some c) m → Scanning (i + 1) (n + c) m
+  scanning_more i n c l m k t =
       let o = k.state in
       record {
-        tested = all_more (scan_ok w) i true true k.tested (sym e);
-        counts = sum_more (changes_of w) i n c k.counts (scanned_count _ _ _ ok c m t s);
-        few = omega (arith, task_few i c ok m t z, k.few);
+        tested = all_more (scan_ok w) i true true k.tested (sym t.0);
+        counts = sum_more (changes_of w) i n c k.counts t.1;
+        few = omega (arith, task_few i c m t, k.few);
         state = rw add-one (record {
-          size = o.size;
           tasks = o.tasks;
           most = o.most;
-          ranks = below_suc (λ j. rank_of w j < max_ranks) i o.ranks (omega (arith, (scan_head i e).rank, o.most));
-          keeps = t.keeps s;
+          ranks = below_suc (λ j. rank_of w j < max_ranks) i o.ranks (omega (arith, (scan_head i t.0).rank, o.most));
+          keeps = t.2;
         });
       }
 
   -- what a scan of all tasks answers
-  abbrev pub Tasks : Bool → ℕ → List ℕ → Type 0
-  Tasks ok n l = Scanned (tasks_scan_ok w) (change_count w) (kept w (tasks_of w)) ok n l
+  abbrev pub Tasks : Option ℕ → List ℕ → Type 0
+  Tasks r l = Scanned (tasks_scan_ok w) (change_count w) (kept w (tasks_of w)) r l
 
-  pub scanning_not : (i c : ℕ) (t : Bool) (r : Checked) (m l : List ℕ) → Task i t c m → not t ≡ true → i < tasks_of w → r ≡ record { ok = false; changes = 0 }
-      → Tasks r.ok r.changes l
-  scanning_not i c t r m l k z b f = scanned_not _ _ _ r l f (all_fails (scan_ok w) (tasks_of w) i b (sym k.tested ∙ not-true t z))
+  pub scanning_not : (i : ℕ) (m l : List ℕ) → Task i None m → i < tasks_of w → Tasks None l
+  scanning_not i m l k b = all_fails (scan_ok w) (tasks_of w) i b k
 
-  pub scanning_done : (i n : ℕ) (l : List ℕ) → Scanning i n l → tasks_of w ≤ i → i ≤ tasks_of w → Tasks true n l
+  pub scanning_done : (i n : ℕ) (l : List ℕ) → Scanning i n l → tasks_of w ≤ i → i ≤ tasks_of w → Tasks (Some n) l
   unfolding change_count
   scanning_done i n l k p q =
-      let e : i ≡ tasks_of w = omega arith in
-      record {
-        tested = all_done (scan_ok w) (tasks_of w) i true k.tested p q;
-        counts = sum_done (changes_of w) (tasks_of w) i n k.counts p q;
-        keeps = λ _. rw e at k.state.keeps;
-      }
+      let e : i ≡ tasks_of w = omega arith in (
+        sym (all_done (scan_ok w) (tasks_of w) i true k.tested p q),
+        sum_done (changes_of w) (tasks_of w) i n k.counts p q,
+        rw e at k.state.keeps,
+      )

@@ -1,13 +1,13 @@
 -- The scan's own shape of the test of a plan's words. Nothing here need be believed: the proofs
 -- show that it is the test of Form, and that it counts what Changes counts.
-use Rattle.std.specs.Prelude.{◌≡◌, ℕ, zero, suc, ◌+◌, ◌-◌, ◌*◌, ◌<◌, ◌≤◌, Bool, true, false, cond, not, ◌&&◌, ◌||◌, List, length, ◌==◌, nat_eq, nat_le, nat_lt, slice_index}
+use Rattle.std.specs.Prelude.{◌≡◌, ℕ, zero, suc, ◌+◌, ◌-◌, ◌*◌, ◌<◌, ◌≤◌, Bool, true, false, cond, not, ◌&&◌, ◌||◌, List, length, ◌==◌, nat_eq, nat_le, nat_lt, slice_index, Option, Some, None}
 use Rattle.finite.specs.Below.{all_below, any_below, count_below}
+use Rattle.kernels.specs.declared.Permitted.{Permitted}
 use Rattle.kernels.specs.declared.Permitted.TheVariants.{Any, Exactly, AtLeast}
 use Rattle.kernels.specs.declared.Kernel.{Kernel}
-use Rattle.kernels.specs.declared.Kernel.TheVariants.{Known, Unknown}
 use Rattle.kernels.specs.Kernels.{suits}
 use Rattle.plan.specs.Limits.{max_ranks, max_regions, max_tasks, max_accesses}
-use Rattle.plan.specs.Layout.{plan_words, at, ranks_of, regions_of, tasks_of, starting_of, rank_of, kernel_of, accesses_of, access_at, region_at, is_read, rank_index, access_end}
+use Rattle.plan.specs.Layout.{at, ranks_of, regions_of, tasks_of, starting_of, rank_of, kernel_of, accesses_of, access_at, region_at, is_read, rank_index, access_end}
 use Rattle.plan.specs.Form.{rest_ok, words_ok}
 use Rattle.form.specs.Changes.{names, changed, change_count}
 
@@ -16,19 +16,22 @@ pub record Keeps (f : ℕ → ℕ) (l : List ℕ) : Type 0 where
   pub size : length l ≡ max_regions
   pub word : (g : ℕ) → g < max_regions → slice_index l g ≡ f g
 
--- what a scan answers: whether a test holds, a count where it does, else 0, and where it does in
--- the list l a word f g for each region g
-pub record Scanned (test : Bool) (count : ℕ) (f : ℕ → ℕ) (ok : Bool) (changes : ℕ) (l : List ℕ) : Type 0 where
-  pub tested : ok ≡ test
-  pub counts : changes ≡ cond ok count 0
-  pub keeps : ok ≡ true → Keeps f l
+-- what a scan answers: a count where a test holds, and then the list l has a word f g for each
+-- region g; none where it does not
+abbrev pub Scanned : Bool → ℕ → (ℕ → ℕ) → Option ℕ → List ℕ → Type 0
+Scanned test count f (Some changes) l = (test ≡ true) × (changes ≡ count) × Keeps f l
+Scanned test count f None l = test ≡ false
+
+-- that any number of reads is permitted
+abbrev pub any_reads : Permitted → Bool
+any_reads Any = true
+any_reads (Exactly n) = false
+any_reads (AtLeast n) = false
 
 -- a kernel that permits any number of reads
-abbrev pub takes_any : Kernel → Bool
-takes_any (Known f Any) = true
-takes_any (Known f (Exactly n)) = false
-takes_any (Known f (AtLeast n)) = false
-takes_any Unknown = false
+abbrev pub takes_any : Option Kernel → Bool
+takes_any (Some kernel) = any_reads kernel.permitted
+takes_any None = false
 
 module _ (w : List ℕ) where
   -- kept for a region that task i was the last to name: its rank and its number
@@ -90,7 +93,6 @@ module _ (w : List ℕ) where
 
   -- before task i
   pub record Open (i : ℕ) (l : List ℕ) : Type 0 where
-    pub size : plan_words ≤ length w
     pub tasks : tasks_of w ≤ max_tasks
     pub most : ranks_of w ≤ max_ranks
     pub ranks : (j : ℕ) → j < i → rank_of w j < max_ranks
@@ -98,15 +100,14 @@ module _ (w : List ℕ) where
 
   -- before its accesses
   pub record Ready (i : ℕ) (l : List ℕ) : Type 0 where
-    pub size : plan_words ≤ length w
     pub task : i < max_tasks
     pub few : accesses_of w i ≤ max_accesses
     pub rank : rank_of w i < max_ranks
     pub ranks : (j : ℕ) → j < i → rank_of w j < max_ranks
     pub keeps : Keeps (kept i) l
 
-  -- the whole scan: the words are in form, but for the number of transfers; and the changes, 0
+  -- the whole scan: the changes where the words are in form, but for the number of transfers; none
   -- where they are not
-  pub record Answer (ok : Bool) (changes : ℕ) : Type 0 where
-    pub formed : ok ≡ words_ok w
-    pub counts : changes ≡ cond ok (change_count w) 0
+  abbrev pub Answer : Option ℕ → Type 0
+  Answer (Some changes) = (words_ok w ≡ true) × (changes ≡ change_count w)
+  Answer None = words_ok w ≡ false

@@ -2,7 +2,7 @@
 // edges that code rests on in proofs/. The item table is made in `items`, edges are found in `walk`.
 #![tactic(auto)]
 
-ghost use Rattle.std.specs.Prelude.{◌≡◌};
+pub mod items;
 
 // A number, with refusal 0; or a refusal, and then the number is 0.
 #[repr(C)]
@@ -10,14 +10,4 @@ ghost use Rattle.std.specs.Prelude.{◌≡◌};
 pub struct Number {
     pub refusal: u64,
     pub number: u64,
-}
-
-// The answer of a refused call.
-pub fn no_number(refusal: u64) -> Number
-    ensures { result ≡ record { refusal = refusal; number = 0 } }
-{
-    Number {
-        refusal: refusal,
-        number: 0,
-    }
 }

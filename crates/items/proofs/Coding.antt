@@ -4,9 +4,10 @@ use mathlib.Core.Path.{◌≡◌, refl, sym, ◌∙◌, ap, ap₂}
 use mathlib.Core.Bool.{Bool, true, false, cond, not, ◌&&◌}
 use mathlib.Core.List.{List, [], ◌∷◌, ◌++◌, map, flat_map}
 use native.Mathlib.Omega.{arith}
-use borrow.Author.Tests.{lt-ltb, le-ltb, not-true, not-false}
+use borrow.Author.Tests.{lt-ltb, le-ltb, not-false}
 use lib.Dec.{eqb}
 use lib.ListN.{length, get_or, drop, length-map, get_or-append}
+use Rattle.std.specs.Prelude.{Some, None}
 use Rattle.finite.specs.Lists.{gather, collect}
 use Rattle.finite.specs.Put.{Put}
 use Rattle.finite.proofs.Collect.{collect_range, collect_ext, collect_beyond, collect_never, map_collect, flat_map_collect, flat_map_gather, map_flat_map, get_d_map}
@@ -22,7 +23,6 @@ use Rattle.plan.specs.Form.{in_form, words_ok}
 use Rattle.transfers.specs.Wanted.{masks_by, wanted_at, wrapped_at, wanted_masks, wrapped_masks}
 use Rattle.plan.proofs.Facts.{Formed, formed}
 use Rattle.transfers.proofs.Masks.{mask_bit, mask_at}
-use Rattle.items.specs.declared.Made.{Made}
 use Rattle.items.specs.Codes.{pair_codes, pair_if, mask_codes, access_codes, task_codes, all_codes, Coded}
 use Rattle.graph.specs.Table.{code_of, table_of, Graph}
 use Rattle.graph.proofs.Small.{form_words, form_transfers}
@@ -136,12 +136,6 @@ table_graph w rest long h =
           ∙ get_d_map (code_of (body_of w)) (item_list (body_of w)) a (task 0) 0 k;
     }
 
--- words that are found not in form
-pub not_made : (w items : List ℕ) (found : Bool) → found ≡ in_form w → not found ≡ true →
-    ◌≡◌ {A = Made} (record { formed = false; count = 0 }) (record { formed = in_form w; count = cond (in_form w) (item_count (body_of w)) 0 })
-    × (items ≡ cond (in_form w) (table_of (body_of w) ++ drop (item_count (body_of w)) items) items)
-not_made w items found e z = rw (sym e ∙ not-true found z) (refl, refl)
-
 -- words that are found in form, and the masks of their transfers
 module _ (w masks wraps zeros none : List ℕ) (found : Bool) (long : length w ≡ plan_words)
     (F : (found ≡ in_form w) × (masks ≡ cond (words_ok w) (wanted_masks w) zeros) × (wraps ≡ cond (words_ok w) (wrapped_masks w) none))
@@ -170,7 +164,7 @@ module _ (w masks wraps zeros none : List ℕ) (found : Bool) (long : length w �
 
   -- the answer, and what the table holds after the code has filled it
   pub table_made : (items items' : List ℕ) (r : ℕ) → Put (all_codes w masks wraps (tasks_of w)) items r items' →
-      ◌≡◌ {A = Made} (record { formed = true; count = r }) (record { formed = in_form w; count = cond (in_form w) (item_count (body_of w)) 0 })
+      (Some r ≡ cond (in_form w) (Some (item_count (body_of w))) None)
       × (items' ≡ cond (in_form w) (table_of (body_of w) ++ drop (item_count (body_of w)) items) items)
   table_made items items' r p =
       rw (form, p.count ∙ codes_counted) (refl, p.begins ∙ ap₂ (λ (l : List ℕ) (k : ℕ). l ++ drop k items) codes_are codes_counted)

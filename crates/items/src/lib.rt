@@ -2,7 +2,7 @@
 // than the plan, in one number (graph/specs/Table.antt), put there in the order of the items.
 #![tactic(auto)]
 
-ghost use Rattle.std.specs.Prelude.{◌+◌, ◌≤◌, ◌<◌, ◌≡◌, cond, ◌∷◌, [], ◌++◌, length, drop};
+ghost use Rattle.std.specs.Prelude.{◌+◌, ◌≤◌, ◌<◌, ◌≡◌, cond, ◌∷◌, [], ◌++◌, Some, None, length, drop};
 ghost use Rattle.finite.specs.Lists.{collect};
 ghost use Rattle.finite.specs.Put.{Put, Added, RoomAt};
 ghost use Rattle.body.specs.Items.{item_count};
@@ -14,9 +14,9 @@ ghost use Rattle.graph.specs.Table.{table_of};
 ghost use Rattle.items.specs.Codes.{pair_codes, mask_codes, access_codes, task_codes, all_codes, Coded};
 
 use plan::code::{RECEIVE, SEND, TASK, item_code};
-use plan::layout::{access_at, access_region, rank_of, tasks_of};
+use plan::layout::access_region;
 use plan::limits::MAX_ACCESSES;
-use plan::numbers::{as_word, narrow_16, wide_16, wide_32};
+use plan::words::Plan;
 use transfers::PLAN_MASKS;
 
 // Puts a number at n, and answers the place behind it.
@@ -24,7 +24,7 @@ fn put_item(items: &mut [u16], n: usize, code: u64) -> usize
     requires { RoomAt (code ∷ []) n items.old × (code < 65536) }
     ensures { Added (code ∷ []) n items.old result items.new }
 {
-    items[n] = narrow_16(code);
+    items[n] = code as u16;
     n + 1
 }
 
@@ -48,121 +48,99 @@ fn put_mask(items: &mut [u16], n: usize, mask: u64, wrapped: u64, rank: u64, reg
     let mut at = n;
     let mut rest = mask;
     while rest != 0 {
-        let q = wide_32(u64::trailing_zeros(rest));
+        let q = u64::from(rest.trailing_zeros());
         at = put_pair(items, at, (wrapped >> q) % 2, rank, region, q);
         rest = rest & (rest - 1);
     }
     at
 }
 
+// A plan, and for each of its accesses the ranks that want what it writes, and those of them to
+// which it goes by a wrapped transfer.
+#[derive(Clone, Copy)]
+struct Wanted<'a> {
+    plan: &'a Plan<'a>,
+    masks: &'a [u16; PLAN_MASKS],
+    wraps: &'a [u16; PLAN_MASKS],
+    ghost coded: { Coded plan.now masks.now wraps.now },
+}
+
 // The transfers of access a of task i, which is on this rank.
-fn put_access(
-    items: &mut [u16],
-    n: usize,
-    plan: &[u64],
-    masks: &[u16; PLAN_MASKS],
-    wraps: &[u16; PLAN_MASKS],
-    rank: u64,
-    i: usize,
-    a: usize,
-) -> usize
-    requires { RoomAt (access_codes plan.now masks.now wraps.now i a) n items.old
-        × (length plan.now ≡ plan_words) × (rank ≡ rank_of plan.now i) × (rank < max_ranks) × (i < max_tasks) × (a < max_accesses) }
-    ensures { Added (access_codes plan.now masks.now wraps.now i a) n items.old result items.new }
+fn put_access(items: &mut [u16], n: usize, from: Wanted, rank: u64, i: usize, a: usize) -> usize
+    requires { RoomAt (access_codes from.plan.now from.masks.now from.wraps.now i a) n items.old
+        × (i < tasks_of from.plan.now) × (rank ≡ rank_of from.plan.now i) × (a < max_accesses) }
+    ensures { Added (access_codes from.entry.plan.now from.entry.masks.now from.entry.wraps.now i a) n items.old result items.new }
 {
     let k = MAX_ACCESSES * i + a;
-    let mask = wide_16(masks[k]);
+    let mask = u64::from(from.masks[k]);
     if mask == 0 {
         return n;
     }
-    let region = access_region(access_at(plan, i, a));
-    put_mask(items, n, mask, wide_16(wraps[k]), rank, as_word(region))
+    let region = access_region(from.plan.access(i, a));
+    put_mask(
+        items,
+        n,
+        mask,
+        u64::from(from.wraps[k]),
+        rank,
+        region as u64,
+    )
 }
 
 // The transfers of task i, by access.
-fn put_accesses(
-    items: &mut [u16],
-    n: usize,
-    plan: &[u64],
-    masks: &[u16; PLAN_MASKS],
-    wraps: &[u16; PLAN_MASKS],
-    i: usize,
-) -> usize
-    requires { RoomAt (collect max_accesses (access_codes plan.now masks.now wraps.now i)) n items.old
-        × (length plan.now ≡ plan_words) × (i < max_tasks) × (rank_of plan.now i < max_ranks) }
-    ensures { Added (collect max_accesses (access_codes plan.now masks.now wraps.now i)) n items.old result items.new }
+fn put_accesses(items: &mut [u16], n: usize, from: Wanted, i: usize) -> usize
+    requires { RoomAt (collect max_accesses (access_codes from.plan.now from.masks.now from.wraps.now i)) n items.old
+        × (i < tasks_of from.plan.now) }
+    ensures { Added (collect max_accesses (access_codes from.entry.plan.now from.entry.masks.now from.entry.wraps.now i)) n items.old result items.new }
 {
-    let rank = rank_of(plan, i);
+    let rank = from.plan.rank(i);
     let mut at = n;
-    let mut a: usize = 0;
-    while a < MAX_ACCESSES {
-        at = put_access(items, at, plan, masks, wraps, rank, i, a);
-        a += 1;
+    for a in 0..MAX_ACCESSES {
+        at = put_access(items, at, from, rank, i, a);
     }
     at
 }
 
 // Task i, and its transfers.
-fn put_task(
-    items: &mut [u16],
-    n: usize,
-    plan: &[u64],
-    masks: &[u16; PLAN_MASKS],
-    wraps: &[u16; PLAN_MASKS],
-    i: usize,
-) -> usize
-    requires { RoomAt (task_codes plan.now masks.now wraps.now i) n items.old
-        × (length plan.now ≡ plan_words) × (i < max_tasks) × (rank_of plan.now i < max_ranks) }
-    ensures { Added (task_codes plan.now masks.now wraps.now i) n items.old result items.new }
+fn put_task(items: &mut [u16], n: usize, from: Wanted, i: usize) -> usize
+    requires { RoomAt (task_codes from.plan.now from.masks.now from.wraps.now i) n items.old
+        × (i < tasks_of from.plan.now) }
+    ensures { Added (task_codes from.entry.plan.now from.entry.masks.now from.entry.wraps.now i) n items.old result items.new }
 {
-    let at = put_item(items, n, item_code(0, rank_of(plan, i), TASK, as_word(i)));
-    put_accesses(items, at, plan, masks, wraps, i)
+    let at = put_item(items, n, item_code(0, from.plan.rank(i), TASK, i as u64));
+    put_accesses(items, at, from, i)
 }
 
 // The items of all tasks; answers their number.
-fn put_items(
-    items: &mut [u16],
-    plan: &[u64],
-    masks: &[u16; PLAN_MASKS],
-    wraps: &[u16; PLAN_MASKS],
-) -> usize
-    requires { (length items.old ≡ max_items) × Coded plan.now masks.now wraps.now }
-    ensures { Put (all_codes plan.now masks.now wraps.now (tasks_of plan.now)) items.old result items.new }
+fn put_items(items: &mut [u16], from: Wanted) -> usize
+    requires { length items.old ≡ max_items }
+    ensures { Put (all_codes from.entry.plan.now from.entry.masks.now from.entry.wraps.now (tasks_of from.entry.plan.now)) items.old result items.new }
 {
-    let tasks = tasks_of(plan);
+    let tasks = from.plan.tasks();
     let mut at: usize = 0;
-    let mut i: usize = 0;
-    while i < tasks {
-        at = put_task(items, at, plan, masks, wraps, i);
-        i += 1;
+    for i in 0..tasks {
+        at = put_task(items, at, from, i);
     }
     at
 }
 
-// A table of a plan's items, and their number; not made, and 0, where the plan is not in form.
-#[derive(Clone, Copy)]
-pub struct Made {
-    pub formed: bool,
-    pub count: usize,
-}
-
-// Makes the table of the items of a plan, where it is in form.
-pub fn make_table(plan: &[u64], items: &mut [u16]) -> Made
+// Makes the table of the items of a plan, and answers their number; None where the plan is not in
+// form.
+pub fn make_table(plan: &Plan, items: &mut [u16]) -> Option<usize>
     requires { (length plan.now ≡ plan_words) × (length items.old ≡ max_items) }
-    ensures { (result ≡ record { formed = in_form plan.now; count = cond (in_form plan.now) (item_count (body_of plan.now)) 0 })
+    ensures { (result ≡ cond (in_form plan.now) (Some (item_count (body_of plan.now))) None)
         × (items.new ≡ cond (in_form plan.now)
         (table_of (body_of plan.now) ++ drop (item_count (body_of plan.now)) items.old) items.old) }
 {
     let mut masks = [0u16; PLAN_MASKS];
     let mut wraps = [0u16; PLAN_MASKS];
     if !form::find_masks(plan, &mut masks, &mut wraps) {
-        return Made {
-            formed: false,
-            count: 0,
-        };
+        return None;
     }
-    Made {
-        formed: true,
-        count: put_items(items, plan, &masks, &wraps),
-    }
+    let wanted = Wanted {
+        plan,
+        masks: &masks,
+        wraps: &wraps,
+    };
+    Some(put_items(items, wanted))
 }

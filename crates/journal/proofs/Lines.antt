@@ -8,7 +8,7 @@ use mathlib.Core.Option.{none, some, none-ne-some}
 use native.Mathlib.Omega.{arith}
 use Rattle.text.specs.declared.Number.{Number}
 use Rattle.text.specs.declared.Number.TheVariants.{Value, TooLarge, Malformed}
-use Rattle.text.specs.declared.Two.TheVariants.{Pair}
+use Rattle.std.specs.Prelude.{Some}
 use Rattle.text.specs.Ascii.{ascii}
 use Rattle.text.specs.Words.{alike}
 use Rattle.text.specs.Numbers.{number_of}
@@ -67,7 +67,7 @@ start_back : (fs : List (List ℕ)) (e : Step) → start_line (two_of fs) ≡ so
 start_back fs e h =
     ⊎_elim (λ n. absurd (none-ne-some e (sym (ap start_line n) ∙ h))) (λ s. go s.0 s.1 s.2 s.3) (two_fields fs)
   where
-    go : (f g : List ℕ) → fs ≡ f ∷ g ∷ [] → two_of fs ≡ Pair (number_of f) (number_of g) → Back (ascii "start" ∷ fs) e
+    go : (f g : List ℕ) → fs ≡ f ∷ g ∷ [] → two_of fs ≡ Some (number_of f, number_of g) → Back (ascii "start" ∷ fs) e
     go f g p q =
         let (a, w, x, y, z) = start_from_lem (number_of f) (number_of g) e (sym (ap start_line q) ∙ h) in
         rw z (ap (λ l. ascii "start" ∷ l) (p ∙ ap₂ ◌∷◌ (number_back f a x) (ap₂ ◌∷◌ (number_back g w y) refl)), (value_word f a x, value_word g w y))

@@ -1,14 +1,12 @@
 -- The lines of a journal (paper 02, card 4): `start`, item, word or `finish`, item, tab-parted and
 -- formed as in a plan, with numbers up to 2^64 - 1. A number above is out of form.
-use Rattle.std.specs.Prelude.{ℕ, cond, List, [], ◌∷◌}
+use Rattle.std.specs.Prelude.{ℕ, cond, List, [], ◌∷◌, Option as Maybe, Some, None}
 use Rattle.std.proofs.Math.Option.{Option, none, some}
 use Rattle.text.specs.Ascii.{ascii}
 use Rattle.text.specs.Words.{alike}
 use Rattle.text.specs.Records.{split, one_of, two_of}
 use Rattle.text.specs.declared.Number.{Number}
 use Rattle.text.specs.declared.Number.TheVariants.{Value, TooLarge, Malformed}
-use Rattle.text.specs.declared.Two.{Two}
-use Rattle.text.specs.declared.Two.TheVariants.{Pair, NoPair}
 
 -- a step of a journal: the start of an item with the word that is stated for it, or the finish of
 -- an item
@@ -30,9 +28,9 @@ finish_from TooLarge = none
 finish_from Malformed = none
 
 -- a start of exactly two fields
-abbrev pub start_line : Two → Option Step
-start_line (Pair x y) = start_from x y
-start_line NoPair = none
+abbrev pub start_line : Maybe (Number × Number) → Option Step
+start_line (Some (x, y)) = start_from x y
+start_line None = none
 
 -- the first field is the word
 abbrev pub step_fields : List (List ℕ) → Option Step

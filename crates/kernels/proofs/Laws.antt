@@ -1,15 +1,14 @@
--- Laws of the kernels. Those that end in _none, _more and _done are a loop's over the reads: before
--- its first turn, over a turn, and after its last.
-use Rattle.std.proofs.Common.{◌≡◌, ℕ, zero, suc, ◌+◌, ◌%◌, ◌^◌, ◌<◌, ◌≤◌, max, true, false, leb, List, [], ◌∷◌, ◌++◌, length, get_or, take, sym, refl, ap, ◌∙◌, add-one, arith, take_all, take-suc, ne_eqb, eqb-true}
+-- Laws of the kernels.
+use Rattle.std.proofs.Common.{◌≡◌, ℕ, zero, suc, ◌+◌, ◌%◌, ◌^◌, ◌<◌, ◌≤◌, max, true, false, leb, List, [], ◌∷◌, ◌++◌, length, get_or, take, sym, refl, ap, ◌∙◌, add-one, arith, take_all, take-suc, fold, ne_eqb, eqb-true, Option, None}
 use native.Mathlib.Decide.{dec_le}
 use borrow.Author.Tests.{lt-leb}
 use Rattle.finite.proofs.Tests.{not_both}
 use Rattle.kernels.specs.declared.Kernel.{Kernel}
-use Rattle.kernels.specs.declared.Kernel.TheVariants.{Unknown}
 use Rattle.kernels.specs.Kernels.{read_at, total, largest, sum_word, kernel_by, computes, permits, is_known, kernel_word, suits, is_kernel}
 
 -- total
 
+-- the loop of the sum: before its first turn, over a turn, and after its last
 pub total_snoc : (xs : List ℕ) (x : ℕ) → total (xs ++ (x ∷ [])) ≡ total xs + x
 unfolding total
 total_snoc [] x = omega arith
@@ -28,21 +27,11 @@ sum_done xs i c s h l = rw (take_all i xs l) at h
 
 -- largest
 
-pub largest_snoc : (xs : List ℕ) (x : ℕ) → largest (xs ++ (x ∷ [])) ≡ max (largest xs) x
+-- a fold that takes the larger of the largest so far and the next read
+pub largest_fold : (xs : List ℕ) (n : ℕ) → fold (λ s x. max x s) n xs ≡ max n (largest xs)
 unfolding largest
-largest_snoc [] x = omega arith
-largest_snoc (y ∷ xs) x = omega (arith, largest_snoc xs x)
-
-pub largest_none : (xs : List ℕ) → 0 ≡ largest (take 0 xs)
-unfolding largest
-largest_none xs = refl
-
--- a turn that takes the larger of the largest so far and the next read
-pub largest_more : (xs : List ℕ) (i s r : ℕ) → s ≡ largest (take i xs) → i < length xs → r ≡ max s (get_or xs i 0) → r ≡ largest (take (i + 1) xs)
-largest_more xs i s r h l e = rw (add-one, take-suc xs i 0, largest_snoc, ← h) e
-
-pub largest_done : (xs : List ℕ) (i s : ℕ) → s ≡ largest (take i xs) → length xs ≤ i → s ≡ largest xs
-largest_done xs i s h l = rw (take_all i xs l) at h
+largest_fold [] n = omega arith
+largest_fold (x ∷ xs) n = omega (arith, largest_fold xs (max x n))
 
 pub largest_below : (xs : List ℕ) (n : ℕ) → 0 < n → ((i : ℕ) → get_or xs i 0 < n) → largest xs < n
 unfolding largest
@@ -52,7 +41,7 @@ largest_below (x ∷ xs) n p h = omega (arith, largest_below xs n p (λ i. h (su
 -- kernel_by
 
 -- no number above 4 is a kernel
-pub kernel_by_other : (k : ℕ) → 4 < k → kernel_by k ≡ Unknown
+pub kernel_by_other : (k : ℕ) → 4 < k → kernel_by k ≡ None
 kernel_by_other k h =
     rw (ne_eqb k 0 (λ p. omega arith), ne_eqb k 1 (λ p. omega arith), ne_eqb k 2 (λ p. omega arith), ne_eqb k 3 (λ p. omega arith), ne_eqb k 4 (λ p. omega arith))
 
@@ -76,7 +65,7 @@ unfolding suits
 suits_other k n h = ap (λ x. permits x n) (kernel_by_other k h)
 
 -- what a kernel permits, its number suits
-pub suits_by : (k n : ℕ) (x : Kernel) → x ≡ kernel_by k → permits x n ≡ suits k n
+pub suits_by : (k n : ℕ) (x : Option Kernel) → x ≡ kernel_by k → permits x n ≡ suits k n
 unfolding suits
 suits_by k n x e = ap (λ y. permits y n) e
 

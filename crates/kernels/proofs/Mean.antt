@@ -68,14 +68,6 @@ balanced zero = first_eight
 balanced (suc s) =
     omega (arith, balanced s, sum_slide 8 quarter s, sum_slide 8 (λ k. k) s, quarter_8 s)
 
--- q quarters and r left over, rounded down
-pub quarter_down : (q r : ℕ) → (4 * q + r) / 4 ≡ q + r / 4
-quarter_down q r = omega arith
-
--- four numbers are their quarters at four times and what is left of each
-pub four_parts : (a b c d : ℕ) → a + b + c + d ≡ 4 * (a / 4 + b / 4 + c / 4 + d / 4) + (a % 4 + b % 4 + c % 4 + d % 4)
-four_parts a b c d = omega arith
-
 -- kernel 3
 
 -- the four reads are all reads

@@ -1,13 +1,12 @@
 -- The word that a task computes, and how many reads its kernel permits (paper 01, "Kernels"; kernel 3
 -- by card 3).
-use Rattle.std.specs.Prelude.{◌≡◌, ℕ, ◌+◌, ◌-◌, ◌*◌, ◌/◌, ◌%◌, ◌^◌, ◌≤◌, max, Bool, true, false, cond, List, [], ◌∷◌, length, ◌==◌, nat_le, slice_index}
+use Rattle.std.specs.Prelude.{◌≡◌, ℕ, ◌+◌, ◌-◌, ◌*◌, ◌/◌, ◌%◌, ◌^◌, ◌≤◌, max, Bool, true, false, cond, List, [], ◌∷◌, length, ◌==◌, nat_le, slice_index, Option, Some, None}
 use Rattle.finite.specs.Below.{sum_below}
 use Rattle.kernels.specs.declared.Computation.{Computation}
 use Rattle.kernels.specs.declared.Computation.TheVariants.{Constant, Sum, Difference, Mean, Largest}
 use Rattle.kernels.specs.declared.Permitted.{Permitted}
 use Rattle.kernels.specs.declared.Permitted.TheVariants.{Any, Exactly, AtLeast}
 use Rattle.kernels.specs.declared.Kernel.{Kernel}
-use Rattle.kernels.specs.declared.Kernel.TheVariants.{Known, Unknown}
 
 -- the exact sum of all reads
 unfoldable pub total : List ℕ → ℕ
@@ -43,14 +42,14 @@ mean_word reads = quarter (read_at reads 0 + read_at reads 1 + read_at reads 2 +
 
 -- what number k is as a kernel: what it computes, and how many reads it permits; no other number
 -- is a kernel
-abbrev pub kernel_by : ℕ → Kernel
+abbrev pub kernel_by : ℕ → Option Kernel
 kernel_by k =
-    cond (k == 0) (Known Constant Any)
-    (cond (k == 1) (Known Sum Any)
-    (cond (k == 2) (Known Difference (Exactly 2))
-    (cond (k == 3) (Known Mean (Exactly 4))
-    (cond (k == 4) (Known Largest (AtLeast 1))
-    Unknown))))
+    cond (k == 0) (Some (record { computation = Constant; permitted = Any }))
+    (cond (k == 1) (Some (record { computation = Sum; permitted = Any }))
+    (cond (k == 2) (Some (record { computation = Difference; permitted = Exactly 2 }))
+    (cond (k == 3) (Some (record { computation = Mean; permitted = Exactly 4 }))
+    (cond (k == 4) (Some (record { computation = Largest; permitted = AtLeast 1 }))
+    None))))
 
 -- the word of each computation, with the constant c and the words read
 abbrev pub word_by : Computation → ℕ → List ℕ → ℕ
@@ -67,19 +66,19 @@ allowed (Exactly m) n = n == m
 allowed (AtLeast m) n = nat_le m n
 
 -- the word of what a number is as a kernel; 0 where it is none
-abbrev pub computes : Kernel → ℕ → List ℕ → ℕ
-computes (Known f p) c reads = word_by f c reads
-computes Unknown c reads = 0
+abbrev pub computes : Option Kernel → ℕ → List ℕ → ℕ
+computes (Some kernel) c reads = word_by kernel.computation c reads
+computes None c reads = 0
 
 -- that it permits n reads
-abbrev pub permits : Kernel → ℕ → Bool
-permits (Known f p) n = allowed p n
-permits Unknown n = false
+abbrev pub permits : Option Kernel → ℕ → Bool
+permits (Some kernel) n = allowed kernel.permitted n
+permits None n = false
 
 -- that it is a kernel
-abbrev pub is_known : Kernel → Bool
-is_known (Known f p) = true
-is_known Unknown = false
+abbrev pub is_known : Option Kernel → Bool
+is_known (Some kernel) = true
+is_known None = false
 
 -- the word of kernel k with the constant c and the words read, in record order
 unfoldable pub kernel_word : ℕ → ℕ → List ℕ → ℕ

@@ -10,7 +10,6 @@ ghost use Rattle.lines.specs.Tables.{item_line_at, edge_line_at, value_line_at};
 
 use output::put_bytes;
 use plan::code::{SEND, TASK, item_kind, item_rank};
-use plan::numbers::{wide_16, wide_32};
 
 // A space and a number.
 fn put_field(out: &mut [u8], at: usize, n: u64) -> usize
@@ -47,7 +46,7 @@ fn put_item(out: &mut [u8], at: usize, table: &[u16], a: usize) -> usize
     requires { (a < length table.now) × RoomAt (item_line_at table.now a) at out.old }
     ensures { Added (item_line_at table.now a) at out.old result out.new }
 {
-    let code = wide_16(table[a]);
+    let code = u64::from(table[a]);
     let head = put_bytes(out, at, b"item");
     let number = put_field(out, head, a as u64);
     let kind = put_kind(out, number, item_kind(code));
@@ -73,9 +72,9 @@ fn put_edge(out: &mut [u8], at: usize, list: &[u32], k: usize) -> usize
 {
     let first = 3 * k;
     let head = put_bytes(out, at, b"edge");
-    let from = put_field(out, head, wide_32(list[first]));
-    let to = put_field(out, from, wide_32(list[first + 1]));
-    put_last(out, to, wide_32(list[first + 2]))
+    let from = put_field(out, head, u64::from(list[first]));
+    let to = put_field(out, from, u64::from(list[first + 1]));
+    put_last(out, to, u64::from(list[first + 2]))
 }
 
 // The lines of m edges by a list with three numbers an edge.

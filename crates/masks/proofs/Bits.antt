@@ -1,5 +1,5 @@
 -- What a set of items has after one was put into it or taken out.
-use Prim.Native.Nat.{ℕ, ◌+◌, ◌-◌, ◌*◌, ◌/◌, ◌%◌, ◌^◌, ◌≤◌, ◌<◌}
+use Prim.Native.Nat.{ℕ, ◌+◌, ◌-◌, ◌*◌, ◌/◌, ◌%◌, ◌^◌, ◌<◌}
 use mathlib.Core.Path.{◌≡◌, refl, sym, ◌∙◌, ap}
 use mathlib.Core.Bool.{Bool, true, false, cond, not, ◌&&◌, ◌||◌, or-false, and-true as and-always}
 use mathlib.Core.List.{List}
@@ -11,14 +11,10 @@ use lib.Bits.{bit_and}
 use lib.Count.{count_trailing_zeros}
 use lib.Dec.{eqb}
 use lib.ListN.{length, get_or, set, replicate, length-set, get_or-replicate}
-use lib.Pow.{shl_exact}
 use Rattle.finite.proofs.Bits.{bit_more, bit_more_below, lowest_set, lowest_below, lowest_under, cleared_bit}
 use Rattle.finite.proofs.Update.{set_at}
 use Rattle.plan.specs.Sizes.{max_items}
-use Rattle.masks.specs.Masks.{mask_words, in_mask, Entered, Lowest}
-
-pub power_word : (q : ℕ) → q < 64 → (1 * 2 ^ q) % 18446744073709551616 ≡ 2 ^ q
-power_word q l = shl_exact 1 q 64 (omega arith) (omega arith) ∙ omega arith
+use Rattle.masks.specs.Masks.{mask_words, in_mask, Entered, Empty, Lowest}
 
 -- by word and bit
 in_at : (words : List ℕ) (k j a x : ℕ) → a / 64 ≡ k → a % 64 ≡ j → get_or words k 0 ≡ x → in_mask words a ≡ eqb (x / 2 ^ j % 2) 1
@@ -103,25 +99,8 @@ module _ (words : List ℕ) (a p : ℕ) (size : length words ≡ mask_words) (la
 abbrev pub NoneIn : List ℕ → ℕ → Type 0
 NoneIn words k = (i : ℕ) → i < k → get_or words i 0 ≡ 0
 
-pub none_yet : (words : List ℕ) → NoneIn words 0
-none_yet words i l = absurd (omega arith)
-
-pub none_more : (words : List ℕ) (k : ℕ) → NoneIn words k → get_or words k 0 ≡ 0 → NoneIn words (k + 1)
-none_more words k h z i l =
-    elim (ℕ_discrete i k) [
-      | yes e ↦ ap (λ (x : ℕ). get_or words x 0) e ∙ z
-      | no e ↦ h i (omega arith)
-    ]
-
-pub lowest_none : (words : List ℕ) (k : ℕ) → length words ≡ mask_words → NoneIn words k → mask_words ≤ k → Lowest words max_items words
-lowest_none words k size h l =
-    record {
-      size = size;
-      most = omega arith;
-      stands = λ m. absurd (omega arith);
-      none_before = λ b m. in_zero words b (h (b / 64) (omega arith));
-      each = λ b m. sym (rw (ne_eqb b max_items (λ e. omega arith)) (and-always (in_mask words b)));
-    }
+pub none_left : (words : List ℕ) → NoneIn words mask_words → Empty words
+none_left words h b m = in_zero words b (h (b / 64) (omega arith))
 
 -- word k is not
 module _ (words : List ℕ) (k q : ℕ) (size : length words ≡ mask_words) (h : NoneIn words k) (l : k < mask_words) (some : get_or words k 0 ≡ 0 → ⊥)
@@ -146,8 +125,8 @@ module _ (words : List ℕ) (k q : ℕ) (size : length words ≡ mask_words) (h 
     lowest_taken =
         record {
           size = length-set words k (bit_and first (first - 1)) ∙ size;
-          most = omega (arith, bit_below);
-          stands = λ m. in_at words k q a first of_word of_bit refl ∙ ap (λ (y : ℕ). eqb y 1) bit_set;
+          below = omega (arith, bit_below);
+          stands = in_at words k q a first of_word of_bit refl ∙ ap (λ (y : ℕ). eqb y 1) bit_set;
           none_before = none_before;
           each = each;
         }

@@ -1,6 +1,6 @@
 -- Sets of items as bits of words. It serves the contracts of inner functions: nothing here need be
 -- believed.
-use Rattle.std.specs.Prelude.{ℕ, ◌/◌, ◌%◌, ◌^◌, ◌≤◌, ◌<◌, ◌≡◌, Bool, true, false, not, ◌&&◌, ◌||◌, List, eqb, length, get_or}
+use Rattle.std.specs.Prelude.{ℕ, ◌/◌, ◌%◌, ◌^◌, ◌<◌, ◌≡◌, Bool, true, false, not, ◌&&◌, ◌||◌, List, eqb, length, get_or}
 use Rattle.plan.specs.Sizes.{max_items}
 
 abbrev pub mask_words : ℕ
@@ -15,10 +15,14 @@ pub record Entered (words : List ℕ) (p : ℕ → Bool) (words' : List ℕ) : T
   pub size : length words' ≡ mask_words
   pub each : (b : ℕ) → b < max_items → in_mask words' b ≡ (in_mask words b || p b)
 
--- a is the lowest item of the set, and was taken out; max_items where there is none
+-- the set has no item
+abbrev pub Empty : List ℕ → Type 0
+Empty words = (b : ℕ) → b < max_items → in_mask words b ≡ false
+
+-- a is the lowest item of the set, and was taken out
 pub record Lowest (words : List ℕ) (a : ℕ) (words' : List ℕ) : Type 0 where
   pub size : length words' ≡ mask_words
-  pub most : a ≤ max_items
-  pub stands : a < max_items → in_mask words a ≡ true
+  pub below : a < max_items
+  pub stands : in_mask words a ≡ true
   pub none_before : (b : ℕ) → b < a → in_mask words b ≡ false
   pub each : (b : ℕ) → b < max_items → in_mask words' b ≡ (in_mask words b && not (eqb b a))

@@ -1,7 +1,7 @@
 -- The numbers at an opening: that of one item, the chains at the start, and the loop over the
 -- items.
 use Prim.Native.Nat.{ℕ, ◌+◌, ◌-◌, ◌/◌, ◌%◌, ◌≤◌, ◌<◌}
-use mathlib.Core.Path.{◌≡◌, refl, sym, ◌∙◌, ap}
+use mathlib.Core.Path.{◌≡◌, refl, sym, ◌∙◌}
 use mathlib.Core.Bool.{Bool, true, false, cond, ◌&&◌, and-false}
 use mathlib.Core.List.{List}
 use native.Mathlib.Decide.{dec_lt}
@@ -21,10 +21,9 @@ use Rattle.edges.proofs.Decided.{distance_later, distance_next}
 use Rattle.waits.specs.Waits.{is_unmet, fresh_count}
 use Rattle.waits.proofs.Bodies.{source_made}
 use Rattle.plan.specs.Sizes.{max_items, count_words, first_unmet}
-use Rattle.plan.specs.Layout.{passes_of, body_of}
-use Rattle.plan.specs.Code.{code_fewer}
+use Rattle.plan.specs.Layout.{body_of}
 use Rattle.graph.specs.Table.{Graph}
-use Rattle.graph.proofs.Lookup.{body_fits, code_passes}
+use Rattle.graph.proofs.Lookup.{body_fits}
 use Rattle.walk.proofs.RowMarks.{zeros_length}
 use Rattle.steps.specs.Answers.{open_count}
 use Rattle.open_waits.specs.Sources.{max_places, max_events, on_chain, since_with, is_source, ItemsPassed}
@@ -91,13 +90,10 @@ passed_none B heads writers nexts seen h w n s =
     none x b c link l e = rw (e, chain_none nexts b) (sym (since_none B (x / 128) (x % 128) c 0 b l ∙ since_start B (x / 128) (x % 128) c b))
 
 -- a turn of the loop: the numbers of the items below a are set
-module _ (w table : List ℕ) (n : ℕ) (G : Graph w table n) (a : ℕ) (below : a < n) (passes code own sources number : ℕ) (p : passes ≡ passes_of w) (c : code ≡ get_or table a 0)
-    (o : own ≡ passes - code_fewer code) (s : sources ≡ count_below (item_count (body_of w)) (is_source (body_of w) a)) (v : number ≡ cond (ltb 0 own) sources 0) where
-  own_is : own ≡ item_passes (body_of w) a
-  own_is = o ∙ (ap (λ (k : ℕ). k - code_fewer code) p ∙ code_passes w table n G a below code c)
-
+module _ (w table : List ℕ) (n : ℕ) (G : Graph w table n) (a : ℕ) (below : a < n) (own sources number : ℕ) (o : own ≡ item_passes (body_of w) a)
+    (s : sources ≡ count_below (item_count (body_of w)) (is_source (body_of w) a)) (v : number ≡ cond (ltb 0 own) sources 0) where
   pub numbers_more : (xs ys : List ℕ) → ys ≡ replaced (within first_unmet a) (open_count (body_of w)) xs → count_words ≤ length xs →
       set ys (first_unmet + a) number ≡ replaced (within first_unmet (a + 1)) (open_count (body_of w)) xs
   numbers_more xs ys h l =
       within_filled_more first_unmet (open_count (body_of w)) xs ys a number h (omega (arith, G.most))
-      (open_number (body_of w) (body_fits w table n G) a (omega (arith, G.count)) number (v ∙ rw (own_is, s)))
+      (open_number (body_of w) (body_fits w table n G) a (omega (arith, G.count)) number (v ∙ rw (o, s)))

@@ -12,14 +12,15 @@ ghost use Rattle.edges.specs.Touch.{touch};
 ghost use Rattle.plan.specs.Limits.{max_ranks};
 ghost use Rattle.plan.specs.Sizes.{max_items, count_words, first_unmet};
 ghost use Rattle.plan.specs.Layout.{body_of};
-ghost use Rattle.graph.specs.Table.{Graph, Task};
+ghost use Rattle.graph.specs.Table.{Task};
 ghost use Rattle.steps.specs.Answers.{open_count};
 ghost use Rattle.open_waits.specs.Sources.{max_places, max_events, on_chain, is_source, Links, Kept, Counted, Joined, Placed, Touched, ItemsPassed};
 
+use graph::items::Items;
 use plan::code::{RECEIVE, TASK, item_kind, item_rank, item_subject};
-use plan::layout::{access_at, access_region, accesses_of, passes_of, writes_region};
-use plan::numbers::{as_index, as_word, index_16, narrow_16, number_if, wide_16};
-use plan::state::{Count, FIRST_UNMET, MAX_ITEMS, own_passes};
+use plan::layout::{access_region, writes_region};
+use plan::state::{Count, FIRST_UNMET, MAX_ITEMS};
+use plan::words::Plan;
 
 // Places of a rank, and of all; events of an item, and of all.
 const RANK_PLACES: usize = 128;
@@ -52,7 +53,7 @@ fn mark_chain(nexts: &[u16], link: usize, seen: &mut [u16], mark: u16, number: C
     while left > 0 {
         let e = left - 1;
         sum = mark_item(seen, mark, e / ITEM_EVENTS, sum);
-        left = index_16(nexts[e]);
+        left = usize::from(nexts[e]);
     }
     sum
 }
@@ -74,15 +75,15 @@ fn touch_place(
     ensures { Placed x e mark writes heads.old heads.new writers.old writers.new nexts.old nexts.new
         seen.old seen.new result }
 {
-    let link = narrow_16(as_word(e + 1));
+    let link = (e + 1) as u16;
     if writes {
-        let sum = mark_chain(nexts, index_16(heads[x]), seen, mark, number);
+        let sum = mark_chain(nexts, usize::from(heads[x]), seen, mark, number);
         nexts[e] = 0;
         heads[x] = link;
         writers[x] = link;
         return sum;
     }
-    let sum = mark_chain(nexts, index_16(writers[x]), seen, mark, number);
+    let sum = mark_chain(nexts, usize::from(writers[x]), seen, mark, number);
     nexts[e] = heads[x];
     heads[x] = link;
     sum
@@ -90,7 +91,7 @@ fn touch_place(
 
 // Task i, which is item a on rank q, touches its places.
 fn touch_task(
-    plan: &[u64],
+    plan: &Plan,
     i: usize,
     a: usize,
     q: usize,
@@ -104,11 +105,10 @@ fn touch_task(
     requires { Task plan.now i × (a < max_items) × (q < max_ranks) × Kept (body_of plan.now) a (λ x. 0) (8 * a) heads.old writers.old nexts.old × Counted mark seen.old number }
     ensures { Touched (body_of plan.now) a q (touch (body_of plan.now) (task i)) (8 * (a + 1)) mark heads.new writers.new nexts.new seen.old seen.new result }
 {
-    let count = accesses_of(plan, i);
+    let count = plan.access_count(i);
     let mut sum = number;
-    let mut k: usize = 0;
-    while k < count {
-        let access = access_at(plan, i, k);
+    for k in 0..count {
+        let access = plan.access(i, k);
         sum = touch_place(
             RANK_PLACES * q + access_region(access),
             ITEM_EVENTS * a + k,
@@ -120,7 +120,6 @@ fn touch_task(
             mark,
             sum,
         );
-        k += 1;
     }
     sum
 }
@@ -138,27 +137,27 @@ fn mark_send(kind: u64, a: usize, seen: &mut [u16], mark: u16) -> Count
 
 // Item a touches its places. Answers how many items before it have an edge to it.
 fn count_sources(
-    plan: &[u64],
-    table: &[u16; MAX_ITEMS],
-    n: usize,
+    items: &Items,
     a: usize,
     heads: &mut [u16],
     writers: &mut [u16],
     nexts: &mut [u16],
     seen: &mut [u16],
 ) -> Count
-    requires { Graph plan.now table.now n × (a < n) × ItemsPassed (body_of plan.now) a heads.old writers.old nexts.old seen.old }
-    ensures { (result ≡ count_below (item_count (body_of plan.now)) (is_source (body_of plan.now) a))
-        × ItemsPassed (body_of plan.now) (a + 1) heads.new writers.new nexts.new seen.new }
+    requires { (a < length items.now.codes.now) × ItemsPassed (body_of items.now.plan.now) a heads.old writers.old nexts.old seen.old }
+    ensures { (result ≡ count_below (item_count (body_of items.now.plan.now)) (is_source (body_of items.now.plan.now) a))
+        × ItemsPassed (body_of items.now.plan.now) (a + 1) heads.new writers.new nexts.new seen.new }
 {
-    let code = wide_16(table[a]);
+    let code = u64::from(items.codes[a]);
     let kind = item_kind(code);
     let subject = item_subject(code);
-    let q = as_index(item_rank(code));
-    let mark = narrow_16(as_word(a + 1));
+    let q = item_rank(code) as usize;
+    let mark = (a + 1) as u16;
     let sent = mark_send(kind, a, seen, mark);
     if kind == TASK {
-        return touch_task(plan, subject, a, q, heads, writers, nexts, seen, mark, sent);
+        return touch_task(
+            items.plan, subject, a, q, heads, writers, nexts, seen, mark, sent,
+        );
     }
     touch_place(
         RANK_PLACES * q + subject,
@@ -175,28 +174,16 @@ fn count_sources(
 
 // The numbers of unmet waits at the opening: of each item how many sources it has, 0 if it has no
 // pass.
-pub fn open_numbers(plan: &[u64], table: &[u16; MAX_ITEMS], n: usize, counts: &mut [Count])
-    requires { Graph plan.now table.now n × (count_words ≤ length counts.old) }
-    ensures { counts.new ≡ replaced (λ i. leb first_unmet i && ltb i (first_unmet + n)) (open_count (body_of plan.now)) counts.old }
+pub fn open_numbers(items: &Items, counts: &mut [Count])
+    requires { count_words ≤ length counts.old }
+    ensures { counts.new ≡ replaced (λ i. leb first_unmet i && ltb i (first_unmet + length items.now.codes.now)) (open_count (body_of items.now.plan.now)) counts.old }
 {
-    let passes = passes_of(plan);
     let mut heads = [0u16; PLACES];
     let mut writers = [0u16; PLACES];
     let mut nexts = [0u16; EVENTS];
     let mut seen = [0u16; MAX_ITEMS];
-    let mut a: usize = 0;
-    while a < n {
-        let sources = count_sources(
-            plan,
-            table,
-            n,
-            a,
-            &mut heads,
-            &mut writers,
-            &mut nexts,
-            &mut seen,
-        );
-        counts[FIRST_UNMET + a] = number_if(0 < own_passes(passes, table[a]), sources);
-        a += 1;
+    for a in 0..items.codes.len() {
+        let sources = count_sources(items, a, &mut heads, &mut writers, &mut nexts, &mut seen);
+        counts[FIRST_UNMET + a] = if 0 < items.passes(a) { sources } else { 0 };
     }
 }

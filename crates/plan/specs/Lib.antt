@@ -4,3 +4,4 @@ pub mod Layout
 pub mod Code
 pub mod Form
 pub mod Counts
+pub mod Refusals

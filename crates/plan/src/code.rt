@@ -2,7 +2,8 @@
 ghost use Rattle.std.specs.Prelude.{◌≡◌, ◌<◌, ◌≤◌};
 ghost use Rattle.plan.specs.Code.{code_from, code_rank, code_kind, code_subject};
 
-// The kinds of items.
+// The kinds of items. They are numbers, for they stand in the codes of the lent tables, which a host
+// may damage to a fourth, and places are computed from them (`slot_of`).
 pub const TASK: u64 = 0;
 
 pub const SEND: u64 = 1;

@@ -6,5 +6,6 @@
 pub mod code;
 pub mod layout;
 pub mod limits;
-pub mod numbers;
+pub mod refusal;
 pub mod state;
+pub mod words;

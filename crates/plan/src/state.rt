@@ -4,8 +4,6 @@ ghost use Rattle.plan.specs.Sizes.{max_items, value_words, slot_of};
 ghost use Rattle.plan.specs.Code.{code_fewer};
 ghost use Rattle.plan.specs.Counts.{surplus_of};
 
-use crate::numbers::as_index;
-
 // A count of an item: of passes, or of unmet waits.
 pub type Count = u64;
 
@@ -17,7 +15,7 @@ pub const TOP_BIT: u64 = 9223372036854775808;
 pub fn surplus(x: Count, y: Count) -> Count
     ensures { result ≡ surplus_of x y }
 {
-    std::num::wrapping_sub_u64(x, y)
+    x.wrapping_sub(y)
 }
 
 // The passes of an item, of a plan with so many: one fewer where its code says so. None below 0.
@@ -25,10 +23,7 @@ pub fn own_passes(passes: Count, code: u16) -> Count
     requires { code_fewer code ≤ 1 }
     ensures { result ≡ passes - code_fewer code }
 {
-    if passes == 0 {
-        return 0;
-    }
-    passes - (code / 8192) as Count
+    passes.saturating_sub(Count::from(code / 8192))
 }
 
 // Items that a plan can have: 128 tasks, and a send and a receive for each of 256 transfers.
@@ -63,5 +58,5 @@ pub fn slot_of(kind: u64, a: usize) -> usize
     requires { (kind ≤ 2) × (a < max_items) }
     ensures { (result ≡ slot_of kind a) × (result < value_words) }
 {
-    FIRST_SLOT + (a + 1) - as_index(kind)
+    FIRST_SLOT + (a + 1) - kind as usize
 }

@@ -19,7 +19,7 @@ use Rattle.plan.specs.Code.{code_fewer}
 use Rattle.graph.specs.Answers.{refusal_of, plan_body}
 use Rattle.steps.specs.State.{state_of, unmet_by}
 use Rattle.steps.specs.Answers.{count_ok, tests_by, finish_tests}
-use Rattle.prepared.specs.Tables.{prepared_words, first_target, first_read, first_write, items_in, code_in, sources_in, start_in, target_count, target_in}
+use Rattle.prepared.specs.Tables.{prepared_words, first_read, first_write, items_in, code_in, sources_in, start_in, target_count, target_in}
 use Rattle.prepared.specs.Steps.{own_in, item_ok, places_ok, targets_ok, start_ok, finish_ok}
 use Rattle.prepared.specs.Laws.{Prepared}
 use Rattle.prepared.proofs.Usable.{reads_ok, writes_ok, targets_ok_lem}
@@ -77,15 +77,9 @@ module _ (plan : ℕ) (tables : List ℕ) (counts values a : ℕ) where
             },
           )
 
-pub within_at : (plan : ℕ) (tables : List ℕ) (counts a : ℕ) → Within plan tables counts a → (b : ℕ) → b ≡ a → Within plan tables counts b
-within_at plan tables counts a w b e = rw e w
-
 -- the counts of passes
 
 module _ (own started finished : ℕ) where
-  pub counted_left : finished < own → (eqb started finished || eqb started (finished + 1)) ≡ counted_ok own started finished
-  counted_left h = rw (le-leb finished own (omega arith), lt-ltb finished own h, and-always (eqb started (finished + 1)))
-
   pub counted_done : own ≤ finished → (eqb finished own && eqb started finished) ≡ counted_ok own started finished
   counted_done h = rw (le-ltb finished own h, and-false (eqb started (finished + 1)), or-false (eqb started finished), same)
     where
@@ -111,10 +105,6 @@ module _ (x : Item) where
 
   pub running_none : x.own ≤ x.finished → false ≡ running_ok x
   running_none h = rw (le-ltb x.finished x.own h)
-
-  pub running_left : x.finished < x.own →
-      (eqb x.started (x.finished + 1) && (leb x.unmet x.items && leb x.passes max_passes)) ≡ running_ok x
-  running_left h = rw (lt-ltb x.finished x.own h)
 
   -- a finish that nothing refuses
   pub finish_running : (runs : Bool) → runs ≡ running_ok x → runs ≡ true → 0 ≡ finish_by x
@@ -175,32 +165,12 @@ module _ (x : Item) where
             waits = false_of (eqb x.unmet 0) (λ z. not_both (rw (z, eq-eqb x.started x.finished e, lt-ltb x.finished x.own l, passes)) n)
 
 -- the targets
-
 module _ (T : List ℕ) (a items : ℕ) where
   abbrev targets_below : Bool
   targets_below =
       ltb (sources_in T a) items
       && (leb (start_in T (a + 1)) max_edges
       && (ltb (target_count T a) items && all_below (target_count T a) (λ k. ltb (target_in T a k) items)))
-
-  pub targets_crowded : (x : ℕ) → x ≡ sources_in T a → items ≤ x → false ≡ targets_below
-  targets_crowded x e h = rw (le-ltb (sources_in T a) items (omega arith))
-
-  pub targets_far : (y : ℕ) → y ≡ start_in T (a + 1) → max_edges < y → false ≡ targets_below
-  targets_far y e h = rw (lt-leb (start_in T (a + 1)) max_edges (omega arith)) (sym (and-false (ltb (sources_in T a) items)))
-
-  module _ (x y z : ℕ) (ex : x ≡ sources_in T a) (ey : y ≡ start_in T (a + 1)) (ez : z ≡ start_in T a) (few : x < items) where
-    pub targets_many : z + items ≤ y → false ≡ targets_below
-    targets_many h =
-        rw (le-ltb (target_count T a) items (omega arith), and-false (leb (start_in T (a + 1)) max_edges)) (sym (and-false (ltb (sources_in T a) items)))
-
-    pub targets_all : y ≤ max_edges → y < z + items → (r : Bool) →
-        r ≡ all_below (y - z) (λ k. ltb (get_or T (first_target + (z + k)) 0) items) → r ≡ targets_below
-    targets_all l h r q =
-        q
-        ∙ (ap (λ (u : ℕ). all_below (u - z) (λ k. ltb (get_or T (first_target + (z + k)) 0) items)) ey
-        ∙ (ap (λ (u : ℕ). all_below (start_in T (a + 1) - u) (λ k. ltb (get_or T (first_target + (u + k)) 0) items)) ez
-        ∙ rw (lt-ltb (sources_in T a) items (omega arith), le-leb (start_in T (a + 1)) max_edges (omega arith), lt-ltb (target_count T a) items (omega arith))))
 
 -- the whole
 

@@ -3,7 +3,7 @@ use Prim.Native.Nat.{ℕ, ◌+◌, ◌≤◌, ◌<◌}
 use mathlib.Core.Path.{◌≡◌, sym, ◌∙◌}
 use mathlib.Core.Bool.{Bool, true, false, ◌&&◌}
 use native.Mathlib.Omega.{arith}
-use borrow.Author.Tests.{lt-ltb, le-ltb, le-leb, lt-leb}
+use borrow.Author.Tests.{lt-ltb, le-ltb, le-leb}
 use lib.Dec.{ltb, leb}
 use Rattle.finite.specs.Below.{all_below}
 use Rattle.finite.proofs.Below.{all_more, all_fails}
@@ -17,8 +17,5 @@ module _ (f : ℕ → ℕ) (limit k x : ℕ) (e : x ≡ f k) where
 
 -- of a list of n numbers, which are x, and `most` at most
 module _ (p : ℕ → Bool) (n most x : ℕ) (e : x ≡ n) where
-  pub list_long : most < x → false ≡ (leb n most && all_below n p)
-  list_long h = rw (lt-leb n most (omega arith))
-
   pub list_all : x ≤ most → (r : Bool) → r ≡ all_below x p → r ≡ (leb n most && all_below n p)
   list_all h r q = q ∙ rw (e, le-leb n most (omega arith))

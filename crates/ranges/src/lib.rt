@@ -5,18 +5,19 @@
 ghost use Rattle.std.specs.Prelude.{ℕ, ◌+◌, ◌-◌, ◌≤◌, ◌<◌, ◌≡◌, ◌&&◌, ltb, leb, length, get_or};
 ghost use Rattle.finite.specs.Below.{all_below};
 ghost use Rattle.plan.specs.Limits.{max_accesses};
-ghost use Rattle.plan.specs.Layout.{plan_words};
 ghost use Rattle.plan.specs.Sizes.{max_items, max_edges, count_words, value_words, first_held};
 ghost use Rattle.plan.specs.Code.{code_fewer};
+ghost use Rattle.plan.specs.Refusals.{refusal_number};
 ghost use Rattle.prepared.specs.Tables.{prepared_words, first_target, items_in, sources_in, start_in, target_count, target_in, place_count, place_in};
 ghost use Rattle.prepared.specs.Laws.{Prepared};
 ghost use Rattle.ranges.specs.Judged.{start_refusal, finish_refusal};
 ghost use Rattle.ranges.specs.Numbers.{lengths_ok, early_refusal, Within, item_in, counted_ok, range_ok, running_ok, start_by, finish_by};
 
-use plan::layout::{PLAN_WORDS, passes_of};
+use plan::layout::PLAN_WORDS;
 use plan::limits::{MAX_ACCESSES, MAX_PASSES};
-use plan::numbers::{as_index, index_16, wide_16};
+use plan::refusal::Refusal;
 use plan::state::{COUNTS, Count, FIRST_FINISHED, FIRST_HELD, FIRST_UNMET, VALUES};
+use plan::words::Plan;
 use prepared::{
     FIRST_CODE, FIRST_READ, FIRST_SOURCE, FIRST_START, FIRST_TARGET, FIRST_WRITE, PREPARED, ROW,
     ROW_COUNT,
@@ -46,30 +47,36 @@ fn are_long(plan: usize, tables: usize, counts: usize, values: usize) -> bool
     ((PLAN_WORDS <= plan) & ((COUNTS <= counts) & (VALUES <= values))) & (PREPARED <= tables)
 }
 
-// What refuses a step before the words of its item are looked at: 11 a slice too short, 12 too many
-// items, 13 no such item; else 0. The other slices have these lengths.
-fn early_refusal(plan: usize, tables: &[u16], counts: usize, values: usize, item: u64) -> u64
-    ensures { (result ≡ early_refusal (lengths_ok plan (length tables.now) counts values) (items_in tables.now) item)
-        × (result ≡ 0 → Within plan tables.now counts item) }
+// Tests a step before the words of its item are looked at: whether a slice is too short, the items
+// are too many, or there is no such item. The other slices have these lengths.
+fn early_refusal(
+    plan: usize,
+    tables: &[u16],
+    counts: usize,
+    values: usize,
+    item: u64,
+) -> Result<(), Refusal>
+    ensures { (refusal_number result ≡ early_refusal (lengths_ok plan (length tables.now) counts values) (items_in tables.now) item)
+        × (refusal_number result ≡ 0 → Within plan tables.now counts item) }
 {
     if !are_long(plan, tables.len(), counts, values) {
-        return 11;
+        return Err(Refusal::TooShort);
     }
-    let items = wide_16(tables[0]);
+    let items = u64::from(tables[0]);
     if items > MAX_ITEMS {
-        return 12;
+        return Err(Refusal::OutOfForm);
     }
     if item >= items {
-        return 13;
+        return Err(Refusal::Unknown);
     }
-    0
+    Ok(())
 }
 
 // The passes of an item with this code, of a plan with so many. None below 0.
 fn own_of(passes: u64, code: u16) -> u64
     ensures { result ≡ passes - code_fewer code }
 {
-    let fewer = wide_16(code / 8192);
+    let fewer = u64::from(code / 8192);
     if passes < fewer {
         return 0;
     }
@@ -77,15 +84,15 @@ fn own_of(passes: u64, code: u16) -> u64
 }
 
 // The numbers of item a.
-fn item_of(plan: &[u64], tables: &[u16], counts: &[Count], a: usize) -> Item
+fn item_of(plan: &Plan, tables: &[u16], counts: &[Count], a: usize) -> Item
     requires { Within (length plan.now) tables.now (length counts.now) a }
     ensures { result ≡ item_in plan.now tables.now counts.now a }
 {
-    let passes = passes_of(plan);
+    let passes = plan.passes();
     Item {
-        passes: passes,
+        passes,
         own: own_of(passes, tables[FIRST_CODE + a]),
-        items: wide_16(tables[0]),
+        items: u64::from(tables[0]),
         started: counts[a],
         finished: counts[FIRST_FINISHED + a],
         unmet: counts[FIRST_UNMET + a],
@@ -110,23 +117,28 @@ fn is_in_range(x: Item) -> bool
     (x.passes <= MAX_PASSES) & (is_counted(x.own, x.started, x.finished) & (x.unmet <= x.items))
 }
 
-// What its numbers refuse a start for: 12 out of range, 14 no pass left, 15 it runs, 16 a wait is
-// unmet; else 0. An accepted start passes the first test, which is the shortest.
-fn start_by(x: Item) -> u64
-    ensures { result ≡ start_by x }
+// Tests the start of an item by its numbers: whether they lie in their ranges, a pass is left, it
+// does not run, and no wait is unmet. An accepted start passes the first test, which is the
+// shortest.
+fn start_by(x: Item) -> Result<(), Refusal>
+    ensures { refusal_number result ≡ start_by x }
 {
     if ((x.unmet == 0) & (x.started == x.finished))
         & ((x.finished < x.own) & (x.passes <= MAX_PASSES))
     {
-        return 0;
+        return Ok(());
     }
     if !is_in_range(x) {
-        return 12;
+        return Err(Refusal::OutOfForm);
     }
     if x.finished >= x.own {
-        return 14;
+        return Err(Refusal::NoPassLeft);
     }
-    if x.started == x.finished { 16 } else { 15 }
+    if x.started == x.finished {
+        Err(Refusal::Waiting)
+    } else {
+        Err(Refusal::Running)
+    }
 }
 
 // Whether an item runs, and its numbers lie in their ranges.
@@ -139,14 +151,18 @@ fn is_running(x: Item) -> bool
     (x.started == x.finished + 1) & ((x.unmet <= x.items) & (x.passes <= MAX_PASSES))
 }
 
-// What they refuse a finish for: 12, 17 it does not run; else 0.
-fn finish_by(x: Item) -> u64
-    ensures { result ≡ finish_by x }
+// Tests its finish by its numbers: whether they lie in their ranges, and it runs.
+fn finish_by(x: Item) -> Result<(), Refusal>
+    ensures { refusal_number result ≡ finish_by x }
 {
     if is_running(x) {
-        return 0;
+        return Ok(());
     }
-    if is_in_range(x) { 17 } else { 12 }
+    if is_in_range(x) {
+        Err(Refusal::NotRunning)
+    } else {
+        Err(Refusal::OutOfForm)
+    }
 }
 
 // Whether the row of item a in the part from `first` on has room for its places, and they are
@@ -156,16 +172,14 @@ fn are_places(tables: &[u16], first: usize, a: usize) -> bool
     ensures { result ≡ (leb (place_count tables.now first a) max_accesses
         && all_below (place_count tables.now first a) (λ k. ltb (place_in tables.now first a k) first_held)) }
 {
-    let count = index_16(tables[first + (ROW * a + ROW_COUNT)]);
+    let count = usize::from(tables[first + (ROW * a + ROW_COUNT)]);
     if MAX_ACCESSES < count {
         return false;
     }
-    let mut k: usize = 0;
-    while k < count {
-        if FIRST_HELD <= index_16(tables[first + (ROW * a + k)]) {
+    for k in 0..count {
+        if FIRST_HELD <= usize::from(tables[first + (ROW * a + k)]) {
             return false;
         }
-        k += 1;
     }
     true
 }
@@ -175,12 +189,10 @@ fn are_items(tables: &[u16], from: usize, to: usize, items: usize) -> bool
     requires { (prepared_words ≤ length tables.now) × (from < 65536) × (to ≤ max_edges) }
     ensures { result ≡ all_below (to - from) (λ k. ltb (get_or tables.now (first_target + (from + k)) 0) items) }
 {
-    let mut k: usize = 0;
-    while from + k < to {
-        if items <= index_16(tables[FIRST_TARGET + (from + k)]) {
+    for j in from..to {
+        if items <= usize::from(tables[FIRST_TARGET + j]) {
             return false;
         }
-        k += 1;
     }
     true
 }
@@ -194,84 +206,90 @@ fn are_targets(tables: &[u16], a: usize, items: usize) -> bool
         && (ltb (target_count tables.now a) items
         && all_below (target_count tables.now a) (λ k. ltb (target_in tables.now a k) items)))) }
 {
-    if items <= index_16(tables[FIRST_SOURCE + a]) {
+    if items <= usize::from(tables[FIRST_SOURCE + a]) {
         return false;
     }
-    let to = index_16(tables[FIRST_START + (a + 1)]);
+    let to = usize::from(tables[FIRST_START + (a + 1)]);
     if MAX_EDGES < to {
         return false;
     }
-    let from = as_index(wide_16(tables[FIRST_START + a]));
+    let from = usize::from(tables[FIRST_START + a]);
     if from + items <= to {
         return false;
     }
     are_items(tables, from, to, items)
 }
 
-// What refuses the start of an item, 0 if nothing does; the lent values have this length.
+// Tests the start of an item; the lent values have this length.
 pub fn start_refusal(
     plan: &[u64],
     tables: &[u16],
     counts: &[Count],
     values: usize,
     item: u64,
-) -> u64
-    ensures { result ≡ start_refusal plan.now tables.now counts.now values item }
+) -> Result<(), Refusal>
+    ensures { refusal_number result ≡ start_refusal plan.now tables.now counts.now values item }
 {
-    let early = early_refusal(plan.len(), tables, counts.len(), values, item);
-    if early != 0 {
-        return early;
-    }
-    let a = as_index(item);
+    early_refusal(plan.len(), tables, counts.len(), values, item)?;
+    let a = item as usize;
     if !are_places(tables, FIRST_READ, a) {
-        return 12;
+        return Err(Refusal::OutOfForm);
     }
-    start_by(item_of(plan, tables, counts, a))
+    start_by(item_of(&Plan::new(plan), tables, counts, a))
 }
 
-// What refuses its finish.
+// Tests its finish.
 pub fn finish_refusal(
     plan: &[u64],
     tables: &[u16],
     counts: &[Count],
     values: usize,
     item: u64,
-) -> u64
-    ensures { result ≡ finish_refusal plan.now tables.now counts.now values item }
+) -> Result<(), Refusal>
+    ensures { refusal_number result ≡ finish_refusal plan.now tables.now counts.now values item }
 {
-    let early = early_refusal(plan.len(), tables, counts.len(), values, item);
-    if early != 0 {
-        return early;
-    }
-    let a = as_index(item);
+    early_refusal(plan.len(), tables, counts.len(), values, item)?;
+    let a = item as usize;
     if !are_places(tables, FIRST_WRITE, a) {
-        return 12;
+        return Err(Refusal::OutOfForm);
     }
-    if !are_targets(tables, a, index_16(tables[0])) {
-        return 12;
+    if !are_targets(tables, a, usize::from(tables[0])) {
+        return Err(Refusal::OutOfForm);
     }
-    finish_by(item_of(plan, tables, counts, a))
+    finish_by(item_of(&Plan::new(plan), tables, counts, a))
 }
 
-// What refuses the start of an item, where the tables are known to be the plan's and the slices to
-// be long enough: rows and targets need no test.
-pub fn start_refusal_known(plan: &[u64], tables: &[u16], counts: &[Count], item: u64) -> u64
-    requires { Prepared plan.now tables.now × (plan_words ≤ length plan.now) × (count_words ≤ length counts.now) }
-    ensures { (values : ℕ) → value_words ≤ values → result ≡ start_refusal plan.now tables.now counts.now values item }
+// Tests the start of an item, where the tables are known to be the plan's and the slices to be long
+// enough: rows and targets need no test.
+pub fn start_refusal_known(
+    plan: &Plan,
+    tables: &[u16],
+    counts: &[Count],
+    item: u64,
+) -> Result<(), Refusal>
+    requires { Prepared plan.now tables.now × (count_words ≤ length counts.now) }
+    ensures { (values : ℕ) → value_words ≤ values → refusal_number result ≡ start_refusal plan.now tables.now counts.now values item }
 {
-    if item >= wide_16(tables[0]) {
-        return 13;
+    let _ = plan.words(); // its ensures: a Plan is long enough
+    if item >= u64::from(tables[0]) {
+        return Err(Refusal::Unknown);
     }
-    start_by(item_of(plan, tables, counts, as_index(item)))
+    start_by(item_of(plan, tables, counts, item as usize))
 }
 
-// What refuses its finish, as above.
-pub fn finish_refusal_known(plan: &[u64], tables: &[u16], counts: &[Count], item: u64) -> u64
-    requires { Prepared plan.now tables.now × (plan_words ≤ length plan.now) × (count_words ≤ length counts.now) }
-    ensures { (values : ℕ) → value_words ≤ values → result ≡ finish_refusal plan.now tables.now counts.now values item }
+// Tests its finish, as above.
+pub fn finish_refusal_known(
+    plan: &Plan,
+    tables: &[u16],
+    counts: &[Count],
+    item: u64,
+) -> Result<(), Refusal>
+    requires { Prepared plan.now tables.now × (count_words ≤ length counts.now) }
+    ensures { (values : ℕ) → value_words ≤ values → refusal_number result ≡ finish_refusal plan.now tables.now counts.now values item }
 {
-    if item >= wide_16(tables[0]) {
-        return 13;
+    let _ = plan.words(); // its ensures: a Plan is long enough
+    if item >= u64::from(tables[0]) {
+        return Err(Refusal::Unknown);
     }
-    finish_by(item_of(plan, tables, counts, as_index(item)))
+    finish_by(item_of(plan, tables, counts, item as usize))
 }

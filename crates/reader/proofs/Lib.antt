@@ -3,5 +3,4 @@ pub mod Writes
 pub mod Finds
 pub mod Same
 pub mod Loops
-pub mod Moves
 pub mod Ends

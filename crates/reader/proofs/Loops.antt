@@ -1,17 +1,17 @@
 -- What the loop over the lines asks: how reading goes on at an offset, and what bounds the words in
 -- hand.
-use Prim.Native.Nat.{ℕ, ◌+◌, ◌-◌, ◌≤◌, ◌<◌}
+use Rattle.std.specs.Prelude.{Option, Some, None, Ok}
+use Prim.Native.Nat.{ℕ, ◌+◌, ◌≤◌, ◌<◌}
 use mathlib.Core.Path.{◌≡◌, refl, sym, ◌∙◌, ap, subst}
 use mathlib.Core.Bool.{true, false}
 use mathlib.Core.List.{List, [], ◌∷◌}
 use native.Mathlib.Omega.{arith}
-use borrow.Author.Tests.{le-ltb, leb-true, ltb-false, ltb-true}
+use borrow.Author.Tests.{le-ltb, leb-true, ltb-false}
 use lib.Dec.{ltb}
 use lib.ListN.{length, drop, replicate, length-replicate, drop_of_length-le}
 use lib.Seq.{drop-cons}
 use Rattle.text.specs.declared.Record.{Record}
-use Rattle.text.specs.declared.RecordAt.{RecordAt}
-use Rattle.text.specs.declared.RecordAt.TheVariants.{Line, Unended}
+use Rattle.text.specs.declared.Line.{Line}
 use Rattle.text.specs.Records.{next_at, next_of, record_at, split}
 use Rattle.text.proofs.LineLaws.{LineAt, line_at_lem, line_end}
 use Rattle.text.proofs.SplitLaws.{split_cons}
@@ -22,9 +22,8 @@ use Rattle.reading.proofs.Accepted.{good, good_step, step_good}
 use Rattle.reading.proofs.Theorems.{plan_ok, words_size, zero_at}
 use Rattle.plan.specs.Limits.{max_bytes, max_regions, max_tasks}
 use Rattle.reader.specs.Machine.{Move, end_of, go, machine_from, machine_of, move, on_move, stop}
-use Rattle.reader.specs.Steps.{Bounds, Ready, Walked, after_line, behind, goes_on, standing}
-use Rattle.reader.specs.declared.Walk.{Walk}
-use Rattle.reader.specs.declared.Walk.TheVariants.{Done, Refused}
+use Rattle.reader.specs.Steps.{Bounds, Walked, move_line, phase_number}
+use Rattle.reader.specs.declared.Phase.{Phase}
 use Rattle.reader.proofs.Finds.{closed_reads}
 use Rattle.reader.proofs.Held.{held}
 use Rattle.reader.proofs.Same.{Agree, Flags, Hand, agrees, count_is, finds, machine_same, named_starts, no_flags, phase}
@@ -117,87 +116,66 @@ formed_of (opened P t) G e h = absurd (omega arith)
 pub formed : (p : ℕ) (f w : List ℕ) → Reached p f w → p ≡ 1 → 1 ≤ at w 3 → words_ok w ≡ true
 formed p f w R e h = rw R.hand.words (formed_of R.state R.keeps (sym R.hand.phases ∙ e) (rw R.hand.words at h))
 
--- what a line more asks of a walk that is not refused
-pub ready_done : (walk : Walk) (p n : ℕ) (f w : List ℕ) → walk ≡ Done p n → Ready walk f w → Bounds p f w × (n ≤ max_bytes + 1)
-ready_done walk p n f w e R = subst (λ k. Ready k f w) e R
-
--- where a walk stands after one line more
-pub after_refused : (walk : Walk) (x : RecordAt) (f w : List ℕ) (why n : ℕ) → walk ≡ Refused why n → (n, stop why) ≡ after_line walk x f w
-after_refused walk x f w why n e = rw e
-
-module _ (walk : Walk) (x : RecordAt) (f w : List ℕ) (p n : ℕ) (e : walk ≡ Done p n) where
-  pub after_unended : x ≡ Unended → (n, stop 1) ≡ after_line walk x f w
-  after_unended h = rw (e, h)
-
-  pub after_stop : (r : Record) (off why : ℕ) → x ≡ Line r off → move p f w r ≡ stop why → (n, stop why) ≡ after_line walk x f w
-  after_stop r off why h m = rw (e, h, m)
-
-  pub after_go : (r : Record) (off p' : ℕ) (f' w' : List ℕ) → x ≡ Line r off → move p f w r ≡ go p' f' w' → (n + 1, go p' f' w') ≡ after_line walk x f w
-  after_go r off p' f' w' h m = rw (e, h, m)
-
 -- before the first line of a text that is not too long
 lines_first : (text f w : List ℕ) → length text ≤ max_bytes → f ≡ replicate max_regions 0 → w ≡ replicate plan_words 0 → machine_from 1 0 f w (split 10 text) ≡ read_of text
 unfolding machine_of
 lines_first text f w h e k = let s = machine_same text in rw (e, k) (rw (le-ltb max_bytes (length text) h) at s)
 
--- what the loop answers
-walked_refused : (text w : List ℕ) (why line : ℕ) → read_of text ≡ refused why line → Walked text (Refused why line) w
-walked_refused text w why line e = record { reads = sym e; formed = λ l z. let o : ◌≡◌ {A = ℕ} 0 1 = cc in absurd (omega arith) }
+-- what holds between two lines, where the next one starts at an offset
+pub record Stands (text : List ℕ) (off p n : ℕ) (f w : List ℕ) : Type 0 where
+  pub within : off ≤ length text
+  pub line : n ≤ off + 1
+  pub reached : Reached p f w
+  pub reads : machine_from n p f w (split 10 (drop off text)) ≡ read_of text
 
-walked_done : (text f w : List ℕ) (p line : ℕ) → Reached p f w → read_of text ≡ end_of line p w → Walked text (Done p line) w
-walked_done text f w p line R e = record { reads = sym e; formed = λ l z h. formed p f w R (cc) h }
+pub stands_first : (text f w : List ℕ) → length text ≤ max_bytes → f ≡ replicate max_regions 0 → w ≡ replicate plan_words 0 → Stands text 0 0 1 f w
+stands_first text f w h e k = record { within = omega arith; line = omega arith; reached = rw (e, k) reached_first; reads = lines_first text f w h e k }
 
--- what holds of a walk between two lines, where the next one starts at an offset
-abbrev pub Stands : List ℕ → ℕ → Walk → List ℕ → List ℕ → Type 0
-Stands text off (Refused why n) f w = read_of text ≡ refused why n
-Stands text off (Done p n) f w = (off ≤ length text) × (n ≤ off + 1) × Reached p f w × (machine_from n p f w (split 10 (drop off text)) ≡ read_of text)
+pub stands_bounds : (text : List ℕ) (off p n : ℕ) (f w : List ℕ) → Stands text off p n f w → Bounds p f w
+stands_bounds text off p n f w S = bounds p f w S.reached
 
--- how much of a walk is left
-abbrev pub to_go : List ℕ → ℕ → Walk → ℕ
-to_go text off (Refused why n) = 0
-to_go text off (Done p n) = length text - off + 1
+-- after the last line
+pub stands_done : (text : List ℕ) (off n : ℕ) (f w : List ℕ) (phase : Phase) → Stands text off (phase_number phase) n f w → ltb off (length text) ≡ false → Walked text (Ok (phase, n)) w
+stands_done text off n f w phase S e =
+    let p = phase_number phase in
+    record {
+      size = (bounds p f w S.reached).words;
+      reads = sym (sym S.reads ∙ line_done text off n p f w (ltb-false _ _ e));
+      formed = λ q h. formed p f w S.reached q h;
+    }
 
-pub stands_first : (text f w : List ℕ) (walk : Walk) → length text ≤ max_bytes → f ≡ replicate max_regions 0 → w ≡ replicate plan_words 0 → walk ≡ Done 0 1 → Stands text 0 walk f w
-stands_first text f w walk h e k d = rw d (omega arith, omega arith, rw (e, k) reached_first, lines_first text f w h e k)
+-- the refusal, and whether it goes on
+abbrev why_of : Move → ℕ
+why_of (go p f w) = 0
+why_of (stop n) = n
 
-pub stands_ready : (text : List ℕ) (off : ℕ) (walk : Walk) (f w : List ℕ) → length text ≤ max_bytes → Stands text off walk f w → Ready walk f w
-stands_ready text off (Refused why n) f w h S = tt
-stands_ready text off (Done p n) f w h S = (bounds p f w S.2, omega (arith, S.0, S.1))
+abbrev going : Move → ℕ
+going (go p f w) = 1
+going (stop n) = 0
 
-pub stands_done : (text : List ℕ) (off : ℕ) (walk : Walk) (f w : List ℕ) → Stands text off walk f w → goes_on walk (ltb off (length text)) ≡ false → Walked text walk w
-stands_done text off (Refused why n) f w S e = walked_refused text w why n S
-stands_done text off (Done p n) f w S e = walked_done text f w p n S.2 (sym S.3 ∙ line_done text off n p f w (ltb-false _ _ e))
+-- one line more
+module _ (text : List ℕ) (off n : ℕ) (f w f' w' : List ℕ) (p : ℕ) (S : Stands text off p n f w) (lt : off < length text) where
+  stops : (x : Option Line) (why : ℕ) → record_at text off ≡ x → stop why ≡ move_line p x f w → refused why n ≡ read_of text
+  stops (Some l) why h e =
+      let k = line_at_lem text off l.says l.next h in
+      sym (line_stop text off n p f w l.says l.next why k (sym e)) ∙ S.reads
+  stops None why h e = let q : why ≡ 1 = ap why_of e in rw q (sym (line_unended text off n p f w (line_end text off h) lt) ∙ S.reads)
 
--- one line more keeps what holds, and less is left
-module _ (text : List ℕ) (off : ℕ) (f w f' w' : List ℕ) where
-  abbrev Goes : ℕ → Walk → ℕ → Walk → Type 0
-  Goes from walk to r = Stands text to r f' w' × (to_go text to r < to_go text from walk)
+  pub stands_stopped : (why : ℕ) → stop why ≡ move_line p (record_at text off) f w → refused why n ≡ read_of text
+  stands_stopped why e = stops (record_at text off) why refl e
 
-  stopped : (p n : ℕ) (r : Walk) (why to : ℕ) → standing r f' w' ≡ (n, stop why) → read_of text ≡ refused why n → Goes off (Done p n) to r
-  stopped p n (Refused why' n') why to e h =
-      let a : n' ≡ n = ap (λ (k : ℕ × Move). k.0) e in
-      let b : stop why' ≡ stop why = ap (λ (k : ℕ × Move). k.1) e in
-      let c : why' ≡ why = cc in
-      (rw (a, c) h, omega arith)
-  stopped p n (Done p' n') why to e h = let b : go p' f' w' ≡ stop why = ap (λ (k : ℕ × Move). k.1) e in let z : ◌≡◌ {A = ℕ} 0 1 = cc in absurd (omega arith)
-
-  goes : (p n : ℕ) (x : Record) (to : ℕ) (m : Move) (r : Walk) → LineAt text off x to → Stands text off (Done p n) f w → move p f w x ≡ m → standing r f' w' ≡ behind n m → Goes off (Done p n) to r
-  goes p n x to (stop why) r l S m e = stopped p n r why to e (sym S.3 ∙ line_stop text off n p f w x to why l m)
-  goes p n x to (go p₁ f₁ w₁) (Refused why' n') l S m e = let b : stop why' ≡ go p₁ f₁ w₁ = ap (λ (k : ℕ × Move). k.1) e in let z : ◌≡◌ {A = ℕ} 0 1 = cc in absurd (omega arith)
-  goes p n x to (go p₁ f₁ w₁) (Done p' n') l S m e =
-      let a : n' ≡ n + 1 = ap (λ (k : ℕ × Move). k.0) e in
-      let b : go p' f' w' ≡ go p₁ f₁ w₁ = ap (λ (k : ℕ × Move). k.1) e in
-      let g : move p f w x ≡ go p' f' w' = m ∙ sym b in (
-        (l.within, omega (arith, l.on, S.1), reached_next p f w x p' f' w' S.2 g, rw a (sym (line_go text off n p f w x to p' f' w' l g) ∙ S.3)),
-        omega (arith, l.on, l.within),
+  goes : (x : Option Line) (p' : ℕ) → record_at text off ≡ x → go p' f' w' ≡ move_line p x f w → Stands text (next_of off x) p' (n + 1) f' w' × (off < next_of off x)
+  goes (Some l) p' h e =
+      let k = line_at_lem text off l.says l.next h in (
+        record {
+          within = k.within;
+          line = omega (arith, k.on, S.line);
+          reached = reached_next p f w l.says p' f' w' S.reached (sym e);
+          reads = sym (line_go text off n p f w l.says l.next p' f' w' k (sym e)) ∙ S.reads;
+        },
+        k.on,
       )
+  goes None p' h e = let z : ◌≡◌ {A = ℕ} 1 0 = ap going e in absurd (omega arith)
 
-  found : (p n : ℕ) (x : RecordAt) (r : Walk) → record_at text off ≡ x → off < length text → Stands text off (Done p n) f w → standing r f' w' ≡ after_line (Done p n) x f w →
-      Goes off (Done p n) (next_of off x) r
-  found p n (Line x to) r h lt S e = goes p n x to (move p f w x) r (line_at_lem text off x to h) S refl e
-  found p n Unended r h lt S e = stopped p n r 1 off e (sym S.3 ∙ line_unended text off n p f w (line_end text off h) lt)
-
-  pub stands_next : (walk r : Walk) → Stands text off walk f w → goes_on walk (ltb off (length text)) ≡ true → standing r f' w' ≡ after_line walk (record_at text off) f w
-      → Stands text (next_at text off) r f' w' × (to_go text (next_at text off) r < to_go text off walk)
-  stands_next (Refused why n) r S g e = let z : ◌≡◌ {A = ℕ} 0 1 = cc in absurd (omega arith)
-  stands_next (Done p n) r S g e = found p n (record_at text off) r refl (ltb-true _ _ g) S e
+  pub stands_next : (p' : ℕ) → go p' f' w' ≡ move_line p (record_at text off) f w → Stands text (next_at text off) p' (n + 1) f' w' × (off < next_at text off)
+  stands_next p' e = goes (record_at text off) p' refl e

@@ -1,10 +1,9 @@
 -- Reading as the code does it, on the plan's words: the same refusals, tested on the words, which
 -- are stored along the way. Nothing here need be believed: `proofs/Same.antt` proves that it is
 -- `read_of`.
-use Rattle.std.specs.Prelude.{ℕ, zero, suc, ◌+◌, ◌-◌, ◌*◌, Bool, cond, not, List, [], ◌∷◌, length, set, replicate, eqb, ltb, leb}
+use Rattle.std.specs.Prelude.{ℕ, zero, suc, ◌+◌, ◌-◌, ◌*◌, Bool, cond, not, List, [], ◌∷◌, length, set, replicate, eqb, ltb, leb, None}
 use Rattle.text.specs.declared.Record.{Record}
 use Rattle.text.specs.declared.Record.TheVariants.{Loop, Start, Begin, Access, End, Unreadable}
-use Rattle.text.specs.declared.RecordAt.TheVariants.{Unended}
 use Rattle.finite.specs.Below.{any_below, count_below}
 use Rattle.body.specs.Transfers.{transfer_count}
 use Rattle.kernels.specs.Kernels.{suits}
@@ -90,8 +89,8 @@ on_move n k (go p f w) = k p f w
 on_move n k (stop why) = refused why n
 
 abbrev pub machine_from : ℕ → ℕ → List ℕ → List ℕ → List (List ℕ) → Reading
-machine_from n p f w [] = refused (line_refusal Unended) n
-machine_from n p f w (l ∷ []) = cond (is_empty l) (end_of n p w) (refused (line_refusal Unended) n)
+machine_from n p f w [] = refused (line_refusal None) n
+machine_from n p f w (l ∷ []) = cond (is_empty l) (end_of n p w) (refused (line_refusal None) n)
 machine_from n p f w (l ∷ m ∷ ls) = on_move n (λ p' f' w'. machine_from (n + 1) p' f' w' (m ∷ ls)) (move p f w (record_of l))
 
 unfoldable pub machine_of : List ℕ → Reading

@@ -2,9 +2,7 @@
 use Rattle.text.specs.declared.Number.{Number}
 use Rattle.text.specs.declared.Mode.{Mode}
 use Rattle.text.specs.declared.Keyword.{Keyword}
-use Rattle.text.specs.declared.Two.TheVariants.{Pair}
-use Rattle.text.specs.declared.Three.{Three}
-use Rattle.text.specs.declared.Three.TheVariants.{Triple, NoTriple}
+use Rattle.std.specs.Prelude.{Option, Some, None}
 use Rattle.text.specs.declared.Record.{Record}
 use Rattle.text.specs.declared.Record.TheVariants.{Loop, Start, Begin, Access, End, Unreadable}
 use mathlib.Core.Path.{refl, sym, ap, ap₂, ◌≡◌, ◌∙◌}
@@ -83,14 +81,14 @@ known w =
 unreadable : {X : Type 0} (r : Record) → r ≡ Unreadable → plain r ≡ true → X
 unreadable r e h = absurd (not_both (rw e at h) refl)
 
-three_back : (C : Number → Number → Number → Record) (k : Keyword) (of : Three → Record) (fs : List (List ℕ)) →
-    ((x y z : Number) → of (Triple x y z) ≡ C x y z) → of NoTriple ≡ Unreadable → ((x y z : Number) → plain (C x y z) ≡ (is_word x && (is_word y && is_word z))) →
+three_back : (C : Number → Number → Number → Record) (k : Keyword) (of : Option (Number × Number × Number) → Record) (fs : List (List ℕ)) →
+    ((x y z : Number) → of (Some (x, y, z)) ≡ C x y z) → of None ≡ Unreadable → ((x y z : Number) → plain (C x y z) ≡ (is_word x && (is_word y && is_word z))) →
     ((x y z : Number) → fields_of (C x y z) ≡ word_of k ∷ digits x ∷ digits y ∷ digits z ∷ []) →
     plain (of (three_of fs)) ≡ true → word_of k ∷ fs ≡ fields_of (of (three_of fs))
 three_back C k of fs t n p f h =
     ⊎_elim (λ e. unreadable (of (three_of fs)) (ap of e ∙ n) h) (λ s. go s.0 s.1 s.2 s.3 s.4) (three_fields fs)
   where
-    go : (a b c : List ℕ) → fs ≡ a ∷ b ∷ c ∷ [] → three_of fs ≡ Triple (number_of a) (number_of b) (number_of c) → word_of k ∷ fs ≡ fields_of (of (three_of fs))
+    go : (a b c : List ℕ) → fs ≡ a ∷ b ∷ c ∷ [] → three_of fs ≡ Some (number_of a, number_of b, number_of c) → word_of k ∷ fs ≡ fields_of (of (three_of fs))
     go a b c e u =
         let r : of (three_of fs) ≡ C (number_of a) (number_of b) (number_of c) = ap of u ∙ t (number_of a) (number_of b) (number_of c) in
         let w : (is_word (number_of a) && (is_word (number_of b) && is_word (number_of c))) ≡ true = sym (p (number_of a) (number_of b) (number_of c)) ∙ (rw r at h) in
@@ -102,7 +100,7 @@ three_back C k of fs t n p f h =
 start_back : (fs : List (List ℕ)) → plain (start_of (two_of fs)) ≡ true → word_of Keyword.Start ∷ fs ≡ fields_of (start_of (two_of fs))
 start_back fs h = ⊎_elim (λ e. unreadable (start_of (two_of fs)) (ap start_of e) h) (λ s. go s.0 s.1 s.2 s.3) (two_fields fs)
   where
-    go : (a b : List ℕ) → fs ≡ a ∷ b ∷ [] → two_of fs ≡ Pair (number_of a) (number_of b) → word_of Keyword.Start ∷ fs ≡ fields_of (start_of (two_of fs))
+    go : (a b : List ℕ) → fs ≡ a ∷ b ∷ [] → two_of fs ≡ Some (number_of a, number_of b) → word_of Keyword.Start ∷ fs ≡ fields_of (start_of (two_of fs))
     go a b e u =
         let r : start_of (two_of fs) ≡ Start (number_of a) (number_of b) = ap start_of u in
         let w : (is_word (number_of a) && is_word (number_of b)) ≡ true = rw r at h in

@@ -1,12 +1,11 @@
 -- Reading a text (paper 01, "Refusals that come from the input"): 1 to 10, in their order.
-use Rattle.std.specs.Prelude.{ℕ, ◌+◌, Bool, true, false, cond, not, ◌&&◌, List, [], ◌∷◌, ◌++◌, length, eqb, ltb, leb}
+use Rattle.std.specs.Prelude.{ℕ, ◌+◌, Bool, true, false, cond, not, ◌&&◌, List, [], ◌∷◌, ◌++◌, length, eqb, ltb, leb, Option, Some, None}
 use Rattle.text.specs.declared.Number.{Number}
 use Rattle.text.specs.declared.Number.TheVariants.{Value, TooLarge, Malformed}
 use Rattle.text.specs.declared.Mode.{Mode}
 use Rattle.text.specs.declared.Record.{Record}
 use Rattle.text.specs.declared.Record.TheVariants.{Loop, Begin, End, Unreadable}
-use Rattle.text.specs.declared.RecordAt.{RecordAt}
-use Rattle.text.specs.declared.RecordAt.TheVariants.{Line, Unended}
+use Rattle.text.specs.declared.Line.{Line}
 use Rattle.text.specs.Records.{split, record_of}
 use Rattle.finite.specs.Lists.{mem}
 use Rattle.kernels.specs.Kernels.{suits}
@@ -84,9 +83,9 @@ record_refusal End = 0
 record_refusal Unreadable = 1
 
 -- the same of a line, or of bytes that no line feed ends
-abbrev pub line_refusal : RecordAt → ℕ
-line_refusal (Line r at) = record_refusal r
-line_refusal Unended = 1
+abbrev pub line_refusal : Option Line → ℕ
+line_refusal (Some l) = record_refusal l.says
+line_refusal None = 1
 
 -- what a record does, with the limit `most` on passes. Within a line: 1, 2, 4 or 5, 3 from left to
 -- right, 10, 6, 9
@@ -152,8 +151,8 @@ on_step n k (refuse why) = refused why n
 
 -- the lines from line n on: what follows the last line feed is the last of the pieces, and must be empty
 abbrev pub read_from_within : ℕ → ℕ → State → List (List ℕ) → Reading
-read_from_within most n s [] = refused (line_refusal Unended) n
-read_from_within most n s (l ∷ []) = cond (is_empty l) (at_end n s) (refused (line_refusal Unended) n)
+read_from_within most n s [] = refused (line_refusal None) n
+read_from_within most n s (l ∷ []) = cond (is_empty l) (at_end n s) (refused (line_refusal None) n)
 read_from_within most n s (l ∷ m ∷ ls) = on_step n (λ s'. read_from_within most (n + 1) s' (m ∷ ls)) (step_within most s (record_of l))
 
 abbrev pub read_from : ℕ → State → List (List ℕ) → Reading

@@ -12,7 +12,7 @@ ghost use Rattle.report.specs.Report.{plan_lines, lines_of, report_bytes, Report
 use graph::Number;
 use lines::{put_edges, put_items, put_refused, put_steps, put_values};
 use plan::layout::{PLAN_WORDS, REGIONS};
-use plan::numbers::{as_index, as_word};
+use plan::refusal::Refusal;
 use plan::state::{COUNTS, EDGE_WORDS, MAX_ITEMS, RESULTS, VALUES};
 
 // The bytes of the lent output: room for the lines of every text.
@@ -59,9 +59,9 @@ fn put_plan(out: &mut [u8], plan: &[u64]) -> usize
         &mut values,
         &mut results,
     );
-    let items = as_index(ran.items);
-    let edges = as_index(ran.edges);
-    let regions = as_index(plan[REGIONS]);
+    let items = ran.items as usize;
+    let edges = ran.edges as usize;
+    let regions = plan[REGIONS] as usize;
     let at = put_graph(out, &table, items, &list, edges);
     at + put_end(&mut out[at..], ran.steps, &results, regions)
 }
@@ -81,17 +81,18 @@ fn put_lines(out: &mut [u8], text: &[u8]) -> usize
 
 // Puts the lines of a text at the start of the lent output; answers how many bytes they are, or 11
 // where the output is shorter than REPORT_BYTES.
+// A number and no Result: `Reports` speaks of a refusal and a number, as the C functions answer.
 pub fn report(text: &[u8], out: &mut [u8]) -> Number
     ensures { Reports text.now out.old result out.new }
 {
     if out.len() < REPORT_BYTES {
         return Number {
-            refusal: 11,
+            refusal: u64::from(Refusal::TooShort),
             number: 0,
         };
     }
     Number {
         refusal: 0,
-        number: as_word(put_lines(out, text)),
+        number: put_lines(out, text) as u64,
     }
 }

@@ -6,19 +6,16 @@
 mod input;
 
 use input::read_text;
-use plan::numbers::as_index;
 use report::REPORT_BYTES;
 
 fn main(rt: HostRuntime) {
     // longer than a text may be, so that of a longer input enough is read to see it
     let mut text = [0u8; 65536];
     let mut out = [0u8; REPORT_BYTES];
-    let got = read_text(&mut rt.stdin(), &mut text);
-    let n = got.bytes;
-    if !got.whole {
+    let Ok(n) = read_text(&mut rt.stdin(), &mut text) else {
         let _ = eprintln!(rt; "run: standard input cannot be read");
         return;
-    }
+    };
     let answer = report::report(&text[..n], &mut out);
-    let _ = rt.stdout().write_all(&out[..as_index(answer.number)]);
+    let _ = rt.stdout().write_all(&out[..answer.number as usize]);
 }

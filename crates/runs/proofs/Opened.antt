@@ -2,12 +2,7 @@
 use Prim.Native.Nat.{ℕ, ◌≤◌}
 use mathlib.Core.Path.{◌≡◌, sym, ◌∙◌, ap, subst}
 use mathlib.Core.List.{List, ◌++◌}
-use native.Mathlib.Omega.{arith}
-use borrow.Author.Tests.{lt-ltb}
-use lib.Dec.{ltb}
-use lib.ListN.{length, get_or}
-use Rattle.finite.specs.Update.{replaced}
-use Rattle.finite.proofs.Replaced.{replaced_at}
+use lib.ListN.{length}
 use Rattle.body.specs.Body.{Body}
 use Rattle.plan.specs.Layout.{body_of}
 use Rattle.plan.specs.Sizes.{count_words, value_words}
@@ -23,19 +18,6 @@ use Rattle.values.proofs.Plans.{plan_long, plan_body_lem, plan_formed}
 use Rattle.calls.specs.Told.{told_opening}
 use Rattle.calls.proofs.Behind.{graph_formed}
 use Rattle.runs.specs.Turns.{Opened}
-
--- the table, copied
-pub graph_copied : (w table items items' : List ℕ) (n : ℕ) → Graph w table n → n ≤ length items → items' ≡ replaced (λ i. ltb i n) (λ i. get_or table i 0) items → Graph w items' n
-graph_copied w table items items' n G l e =
-    record {
-      long = G.long;
-      formed = G.formed;
-      count = G.count;
-      most = G.most;
-      each = λ a h.
-          ap (λ (x : List ℕ). get_or x a 0) e
-          ∙ (replaced_at (λ i. ltb i n) (λ i. get_or table i 0) items a (omega (arith, l)) ∙ (rw (lt-ltb a n h) (G.each a h)));
-    }
 
 -- the tables made for it
 pub tables_made : (w table : List ℕ) (n : ℕ) → Graph w table n → (behind tables : List ℕ) → tables ≡ tables_of (body_of w) ++ behind → Prepared w tables

@@ -1,5 +1,5 @@
 -- The set of the items that are ready when a run begins.
-use Prim.Native.Nat.{ℕ, ◌+◌, ◌-◌, ◌≤◌, ◌<◌}
+use Prim.Native.Nat.{ℕ, ◌+◌, ◌≤◌, ◌<◌}
 use mathlib.Core.Path.{◌≡◌, refl, sym, ◌∙◌, ap, subst}
 use mathlib.Core.Bool.{Bool, true, false, not, ◌&&◌, ◌||◌, or-false, and-true as and-always}
 use mathlib.Core.List.{List}
@@ -7,17 +7,15 @@ use native.Mathlib.Decide.{dec_lt, ℕ_discrete}
 use native.Mathlib.Omega.{arith}
 use borrow.Author.Tests.{eq-eqb, ne_eqb, lt-ltb, le-ltb}
 use lib.Dec.{eqb, ltb}
-use lib.ListN.{length, get_or, replicate, length-replicate}
+use lib.ListN.{length, replicate, length-replicate}
 use Rattle.body.specs.Body.{Body}
-use Rattle.body.specs.Items.{item_count}
-use Rattle.plan.specs.Layout.{body_of, passes_of}
-use Rattle.plan.specs.Code.{code_fewer}
+use Rattle.body.specs.Items.{item_count, item_passes}
+use Rattle.plan.specs.Layout.{body_of}
 use Rattle.plan.specs.Sizes.{max_items}
 use Rattle.masks.specs.Masks.{mask_words, in_mask, Entered}
 use Rattle.masks.proofs.Bits.{none_in}
 use Rattle.masks.proofs.Sets.{entered_none, entered_ext, entered_more}
 use Rattle.graph.specs.Table.{Graph}
-use Rattle.graph.proofs.Lookup.{own_passes_lem}
 use Rattle.steps.specs.State.{done_by, unmet_by}
 use Rattle.steps.specs.Turns.{is_ready}
 use Rattle.values.proofs.Plans.{plan_body_lem}
@@ -28,12 +26,11 @@ use Rattle.runs.specs.Turns.{ReadyBut}
 unfoldable pub ready_below : List ℕ → List ℕ → ℕ → ℕ → Bool
 ready_below w C k b = ltb b k && is_ready (body_of w) C b
 
-module _ (w table : List ℕ) (n : ℕ) (G : Graph w table n) (C : List ℕ) where
-  pub ready_is : (passes : ℕ) → passes ≡ passes_of w → (b : ℕ) → b < n → (own : ℕ) → own ≡ passes - code_fewer (get_or table b 0) →
-      (ltb (done_by C b) own && eqb (unmet_by C b) 0) ≡ is_ready (body_of w) C b
-  unfolding is_ready
-  ready_is passes p b l own e = ap (λ (x : ℕ). ltb (done_by C b) x && eqb (unmet_by C b) 0) (own_passes_lem w table n G passes p b l own e)
+pub ready_is : (B : Body) (C : List ℕ) (b own : ℕ) → own ≡ item_passes B b → (ltb (done_by C b) own && eqb (unmet_by C b) 0) ≡ is_ready B C b
+unfolding is_ready
+ready_is B C b own e = ap (λ (x : ℕ). ltb (done_by C b) x && eqb (unmet_by C b) 0) e
 
+module _ (w table : List ℕ) (n : ℕ) (G : Graph w table n) (C : List ℕ) where
   pub below_none : (words : List ℕ) → words ≡ replicate mask_words 0 → Entered words (ready_below w C 0) words
   unfolding ready_below
   below_none words z =

@@ -61,17 +61,16 @@ module _ (w tables : List ℕ) (P : Prepared w tables) (a : ℕ) (C W words : Li
       let p : B.passes ≤ max_passes = subst (λ (x : Body). x.passes ≤ max_passes) (sym (plan_body_lem w X.plan)) (passes_few w X.plan.formed) in
       omega (arith, pass_left, p, (passes_most B (item_at B a)).0)
 
-  sized : (C1 W1 : List ℕ) → length C1 ≡ length C → length W1 ≡ length W → Sized w tables C1 W1 a
+  sized : (C1 W1 : List ℕ) → length C1 ≡ length C → length W1 ≡ length W → Sized tables C1 W1 a
   sized C1 W1 e f =
       record {
-        long_plan_lem = plan_long w X.plan;
         long_tables = P.long;
         long_counts = omega (arith, e, X.idle.long_counts);
         long_values = omega (arith, f, X.idle.long_values);
         below = few;
       }
 
-  pub startable : Startable w tables C W a
+  pub startable : Startable tables C W a
   startable =
       record {
         sized = sized C W refl refl;
@@ -107,7 +106,7 @@ module _ (w tables : List ℕ) (P : Prepared w tables) (a : ℕ) (C W words : Li
     kept : (i : ℕ) → max_items ≤ i → get_or C1 i 0 ≡ get_or C i 0
     kept i l = ap (λ (x : List ℕ). get_or x i 0) counts_begun ∙ get_or-set_other C a i (suc (get_or C a 0)) 0 (λ e. omega (arith, few))
 
-    pub finishable : Finishable w tables C1 W1 a
+    pub finishable : Finishable tables C1 W1 a
     finishable =
         record {
           sized = sized C1 W1 size_begun (ap (λ (r : Left). length r.values) begun_is ∙ length-set W (first_held + a) (started w C W a).word);

@@ -20,12 +20,11 @@ module _ (w : List ℕ) where
     pub size : length words ≡ mask_words
     pub each : (b : ℕ) → b < max_items → in_mask words b ≡ ((ltb b (item_count (plan_body w)) && is_ready (plan_body w) counts b) && not (eqb b a))
 
-  -- a is the lowest item that is ready; max_items where none is
+  -- a is the lowest item that is ready
   pub record FirstReady (counts : List ℕ) (a : ℕ) : Type 0 where
     pub none_before : (b : ℕ) → b < a → b < item_count (plan_body w) → is_ready (plan_body w) counts b ≡ false
-    pub most : a ≤ max_items
-    pub below : a < max_items → a < item_count (plan_body w)
-    pub ready : a < max_items → is_ready (plan_body w) counts a ≡ true
+    pub below : a < item_count (plan_body w)
+    pub ready : is_ready (plan_body w) counts a ≡ true
 
   -- item a takes a turn
   pub record Turn (a : ℕ) (counts values words : List ℕ) : Type 0 where

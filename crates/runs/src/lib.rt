@@ -6,7 +6,6 @@
 ghost use Rattle.std.specs.Prelude.{◌≤◌, ◌≡◌, length};
 ghost use Rattle.plan.specs.Limits.{max_accesses};
 ghost use Rattle.plan.specs.Sizes.{max_items, count_words, value_words, edge_words};
-ghost use Rattle.graph.specs.Table.{Graph};
 ghost use Rattle.steps.specs.Answers.{started, finished, open_of};
 ghost use Rattle.steps.specs.Calls.{lent, lent_by};
 ghost use Rattle.steps.specs.Turns.{Going, Over};
@@ -18,15 +17,15 @@ mod ready;
 pub mod shown;
 
 use crate::ready::put_ready;
-use crate::shown::copy_items;
 use calls::drawing::list_edges;
 use calls::openings::open_clear;
 use engine::finishes::finish_into_set;
 use engine::starts::start_item;
+use graph::items::Items;
 use masks::{MASK_WORDS, take_lowest};
-use plan::layout::pass_count;
 use plan::limits::MAX_ACCESSES;
-use plan::state::{Count, MAX_ITEMS};
+use plan::state::Count;
+use plan::words::Plan;
 use prepared::PREPARED;
 use tables::make_tables;
 
@@ -34,7 +33,7 @@ use tables::make_tables;
 // leave them (`InStep`), so the finish by tables is the ordinary one. `room` is for the words that
 // it reads.
 fn take_turn(
-    plan: &[u64],
+    plan: &Plan,
     tables: &[u16],
     a: usize,
     counts: &mut [Count],
@@ -53,46 +52,31 @@ fn take_turn(
 }
 
 // Takes turns until no step is accepted, and answers how many steps they were.
-fn take_turns(
-    plan: &[u64],
-    table: &[u16; MAX_ITEMS],
-    n: usize,
-    tables: &[u16],
-    counts: &mut [Count],
-    values: &mut [u64],
-) -> u64
-    requires { Graph plan.now table.now n × Prepared plan.now tables.now × Opened plan.now (lent counts.old values.old) }
-    ensures { Going plan.now (lent counts.old values.old) (lent counts.new values.new) result
-        × Over plan.now (lent counts.new values.new) }
+fn take_turns(items: &Items, tables: &[u16], counts: &mut [Count], values: &mut [u64]) -> u64
+    requires { Prepared items.now.plan.now tables.now × Opened items.now.plan.now (lent counts.old values.old) }
+    ensures { Going items.now.plan.now (lent counts.old values.old) (lent counts.new values.new) result
+        × Over items.now.plan.now (lent counts.new values.new) }
 {
     let mut words = [0u64; MASK_WORDS];
-    put_ready(plan, table, n, counts, pass_count(plan), &mut words);
+    put_ready(items, counts, &mut words);
     let mut room = [0u64; MAX_ACCESSES];
     let mut steps: u64 = 0;
-    let mut a = take_lowest(&mut words);
-    while a < MAX_ITEMS {
-        take_turn(plan, tables, a, counts, values, &mut room, &mut words);
+    while let Some(a) = take_lowest(&mut words) {
+        take_turn(items.plan, tables, a, counts, values, &mut room, &mut words);
         steps += 2;
-        a = take_lowest(&mut words);
     }
     steps
 }
 
 // Runs an opened plan to its end, and answers how many steps that took.
-fn run_opened(
-    plan: &[u64],
-    table: &[u16; MAX_ITEMS],
-    n: usize,
-    counts: &mut [Count],
-    values: &mut [u64],
-) -> u64
-    requires { Graph plan.now table.now n × Opened plan.now (lent counts.old values.old) }
-    ensures { Going plan.now (lent counts.old values.old) (lent counts.new values.new) result
-        × Over plan.now (lent counts.new values.new) }
+fn run_opened(items: &Items, counts: &mut [Count], values: &mut [u64]) -> u64
+    requires { Opened items.now.plan.now (lent counts.old values.old) }
+    ensures { Going items.now.plan.now (lent counts.old values.old) (lent counts.new values.new) result
+        × Over items.now.plan.now (lent counts.new values.new) }
 {
     let mut tables = [0u16; PREPARED];
-    make_tables(plan, table, n, &mut tables);
-    take_turns(plan, table, n, &tables, counts, values)
+    make_tables(items, &mut tables);
+    take_turns(items, &tables, counts, values)
 }
 
 // How many edges were listed, and how many steps were taken.
@@ -103,26 +87,14 @@ pub struct Ended {
 }
 
 // Lists the edges of a plan, opens a state for it and runs it to its end.
-pub fn run_clear(
-    plan: &[u64],
-    table: &[u16],
-    n: usize,
-    list: &mut [u32],
-    counts: &mut [Count],
-    values: &mut [u64],
-) -> Ended
-    requires { Graph plan.now table.now n × (n ≤ length table.now) × (edge_words ≤ length list.old) × (count_words ≤ length counts.old) × (value_words ≤ length values.old) }
-    ensures { Drawn plan.now list.old result.edges list.new
-        × Going plan.now (lent_by (open_of plan.now counts.old values.old)) (lent counts.new values.new) result.steps
-        × Over plan.now (lent counts.new values.new) }
+pub fn run_clear(items: &Items, list: &mut [u32], counts: &mut [Count], values: &mut [u64]) -> Ended
+    requires { (edge_words ≤ length list.old) × (count_words ≤ length counts.old) × (value_words ≤ length values.old) }
+    ensures { Drawn items.now.plan.now list.old result.edges list.new
+        × Going items.now.plan.now (lent_by (open_of items.now.plan.now counts.old values.old)) (lent counts.new values.new) result.steps
+        × Over items.now.plan.now (lent counts.new values.new) }
 {
-    let mut items = [0u16; MAX_ITEMS];
-    copy_items(table, n, &mut items);
-    let edges = list_edges(plan, &items, n, list);
-    open_clear(plan, &items, n, counts, values);
-    let steps = run_opened(plan, &items, n, counts, values);
-    Ended {
-        edges: edges,
-        steps: steps,
-    }
+    let edges = list_edges(items, list);
+    open_clear(items, counts, values);
+    let steps = run_opened(items, counts, values);
+    Ended { edges, steps }
 }

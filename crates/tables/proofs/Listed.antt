@@ -1,17 +1,16 @@
 -- The places of an item that is found, and rows of places, one more a turn.
 use Prim.Native.Nat.{ℕ, zero, suc, ◌+◌, ◌-◌, ◌*◌, ◌≤◌, ◌<◌}
 use mathlib.Core.Path.{◌≡◌, refl, sym, ◌∙◌, ap, ap₂}
-use mathlib.Core.Bool.{Bool, true, false, cond, not}
+use mathlib.Core.Bool.{Bool, true, false, cond}
 use mathlib.Core.List.{List, [], ◌∷◌, ◌++◌, map, append_assoc}
 use native.Mathlib.Omega.{arith}
-use borrow.Author.Tests.{not-true, not-false}
 use lib.Dec.{eqb}
-use lib.ListN.{length, take, drop, set, replicate, length-append, length-set}
+use lib.ListN.{length, take, drop, set, replicate, length-append}
 use lib.Seq.{take_at, drop_at, set_at}
 use Rattle.finite.specs.Lists.{gather, collect}
 use Rattle.finite.specs.Put.{Added, RoomAt}
 use Rattle.finite.proofs.Collect.{gather_collect, collect_most, collect_next, map_gather}
-use Rattle.finite.proofs.Puts.{added_none, added_one, added_append, added_same}
+use Rattle.finite.proofs.Puts.{added_one, added_append, added_same}
 use Rattle.body.specs.Body.{Body}
 use Rattle.body.specs.Items.{Item, task, send, receive, kind_of, item_rank, item_count, item_at}
 use Rattle.body.specs.Places.{slot, copy, reads_of, writes_of}
@@ -27,24 +26,9 @@ use Rattle.prepared.specs.Tables.{padded, place_row, place_rows, list_words}
 use Rattle.tables.specs.Rows.{places_of, regions_used, places_moved, rows_before}
 use Rattle.tables.proofs.Padded.{length_padded, padded_zeros, take_zeros, drop_zeros, lent_added}
 
--- a place put where `yes` holds
-module _ (yes : Bool) (a at : ℕ) (row : List ℕ) where
-  pub put_fits : RoomAt (cond yes (a ∷ []) []) at row → not yes ≡ false → at < length row
-  put_fits h e = let k : RoomAt (a ∷ []) at row = rw (not-false yes e) at h in omega (arith, k.fits)
-
-  pub put_none : not yes ≡ true → Added (cond yes (a ∷ []) []) at row at row
-  put_none e = rw (not-true yes e) added_none
-
-  pub put_one : (v : ℕ) → not yes ≡ false → v ≡ a → Added (cond yes (a ∷ []) []) at row (at + 1) (set row at v)
-  put_one v e h = rw (not-false yes e) (added_one h)
-
 one_most : (yes : Bool) (x : ℕ) → length (cond yes (x ∷ []) []) ≤ 1
 one_most true x = omega arith
 one_most false x = omega arith
-
-pub cond_below : (b : Bool) (x y n : ℕ) → x < n → y < n → cond b x y < n
-cond_below true x y n h k = h
-cond_below false x y n h k = k
 
 -- which accesses of task i write their region, or else read it, and the copy of such a one
 abbrev pub is_used : List ℕ → Bool → ℕ → ℕ → Bool
@@ -84,9 +68,6 @@ module _ (w : List ℕ) (write : Bool) (i first : ℕ) where
 
 -- the places of a send or a receive, put into a row
 module _ (receives write : Bool) (at g x : ℕ) (row : List ℕ) where
-  pub moved_room : max_accesses ≤ length row → RoomAt (cond receives (g ∷ []) []) 1 (set row 0 x)
-  moved_room l = record { fits = omega (arith, one_most receives g, length-set row 0 x) }
-
   pub moved_written : (r : ℕ) (out : List ℕ) → write ≡ true → x ≡ at → Added (cond receives (g ∷ []) []) 1 (set row 0 x) r out →
       Added (places_moved receives write at g) 0 row r out
   unfolding places_moved

@@ -1,12 +1,11 @@
 -- Laws of padded parts: numbers and zeros behind them.
-use Prim.Native.Nat.{ℕ, suc, ◌+◌, ◌-◌, ◌≤◌, ◌<◌}
+use Prim.Native.Nat.{ℕ, ◌+◌, ◌-◌, ◌≤◌, ◌<◌}
 use mathlib.Core.Path.{◌≡◌, sym, ◌∙◌, ap}
 use mathlib.Core.List.{List, ◌++◌, append_assoc}
 use native.Mathlib.Decide.{dec_lt}
-use native.Mathlib.Numerals.{add-one}
 use native.Mathlib.Omega.{arith}
-use lib.ListN.{length, get_or, take, drop, set, replicate, length-append, length-drop, length-replicate, get_or-replicate, replicate-append-replicate, get_or-append, get_or-eq_default}
-use lib.Seq.{length-take-le, take-suc, drop-cons, take_at, drop_at, set_at, get_or-append-add, drop-drop, sets-eq}
+use lib.ListN.{length, get_or, take, drop, replicate, length-append, length-drop, length-replicate, get_or-replicate, replicate-append-replicate, get_or-append, get_or-eq_default}
+use lib.Seq.{length-take-le, take_at, drop_at, get_or-append-add, drop-drop, sets-eq}
 use Rattle.finite.specs.Put.{Added}
 use Rattle.finite.proofs.Lists.{length_tabulate, get_d_tabulate}
 use Rattle.finite.proofs.Replaced.{list_ext}
@@ -62,22 +61,11 @@ pub padded_added : (k : ℕ) (l zs : List ℕ) (r : ℕ) (xs : List ℕ) → len
 padded_added k l zs r xs h z a =
     padded_front k l zs xs h z (added_put (omega (arith, ap length z, length-replicate {A = ℕ} k 0)) a).begins
 
--- the loop of `copy`
-pub copy_more : (from part mid : List ℕ) (i : ℕ) → mid ≡ take i from ++ drop i part → i < length from → i < length part →
-    set mid i (get_or from i 0) ≡ take (i + 1) from ++ drop (i + 1) part
-copy_more from part mid i h l m =
-    rw (h, add-one i, drop-cons part i 0 m, take-suc from i 0 l, append_assoc)
-    (set_at (take i from) (get_or part i 0) (drop (suc i) part) (get_or from i 0) i (length-take-le i from (omega arith)))
-
-pub copy_done : (from part out : List ℕ) (n i : ℕ) → out ≡ take i from ++ drop i part → n ≤ i → i ≤ n → out ≡ take n from ++ drop n part
-copy_done from part out n i h l m = let e : n ≡ i = omega arith in rw e h
-
 -- `pad`
-pub pad_done : (from part zs out : List ℕ) (n : ℕ) → n ≤ length from → n ≤ length part → zs ≡ replicate (length part) 0 → out ≡ take n from ++ drop n zs →
-    out ≡ padded (length part) (take n from)
-pad_done from part zs out n l m z h =
+pub pad_done : (from front rest : List ℕ) (n k : ℕ) → n ≤ length from → n ≤ k → front ≡ take n from → rest ≡ replicate (k - n) 0 → front ++ rest ≡ padded k (take n from)
+pad_done from front rest n k l m h z =
     let e : length (take n from) ≡ n = length-take-le n from l in
-    padded_front (length part) (take n from) zs out (omega arith) z (rw e h)
+    rw (h, z) (ap (λ (j : ℕ). take n from ++ replicate {A = ℕ} (k - j) 0) (sym e) ∙ padded_zeros k (take n from) (omega (arith, e)))
 
 -- the part of xs from a to e is lent and comes back as ys
 pub lent_added : (a e : ℕ) (xs ys : List ℕ) → a ≤ e → e ≤ length xs → length ys ≡ e - a → Added ys a xs e (take a xs ++ (ys ++ drop (e - a) (drop a xs)))

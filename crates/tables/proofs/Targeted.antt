@@ -88,9 +88,6 @@ module _ (marks : List ℕ) (b : ℕ) where
 
 -- `skip_blocks` and `next_marked`
 module _ (marks : List ℕ) (b n : ℕ) where
-  pub passed_none : b ≤ n → Passed marks b n b
-  passed_none l = record { least = omega arith; most = l; none = λ k u v o. omega arith }
-
   module _ (r : ℕ) (P : Passed marks b n r) where
     pub passed_block : (t : Bool) → t ≡ any_below 16 (λ k. is_marked marks (r + k)) → t ≡ false → r + 16 ≤ n → Passed marks b n (r + 16)
     passed_block t e f l =
@@ -104,18 +101,6 @@ module _ (marks : List ℕ) (b n : ℕ) where
                     let z : r + (k - r) ≡ k = omega arith in
                     let q : get_or marks (r + (k - r)) 0 ≡ 1 = rw z o in
                     not_both (any_at (λ j. is_marked marks (r + j)) 16 (k - r) (omega arith) (marked_in marks (r + (k - r)) q)) (sym e ∙ f)
-              ];
-        }
-
-    pub passed_one : r < n → (get_or marks r 0 ≡ 1 → ⊥) → Passed marks b n (r + 1)
-    passed_one l h =
-        record {
-          least = omega (arith, P.least);
-          most = omega arith;
-          none = λ k u v o.
-              elim (ℕ_discrete k r) [
-                | yes z ↦ h (rw z at o)
-                | no z ↦ P.none k u (omega arith) o
               ];
         }
 

@@ -4,7 +4,6 @@
 ghost use Rattle.std.specs.Prelude.{◌≤◌, ◌≡◌, ◌++◌, length, drop};
 ghost use Rattle.finite.specs.Put.{Added};
 ghost use Rattle.plan.specs.Layout.{body_of};
-ghost use Rattle.graph.specs.Table.{Graph};
 ghost use Rattle.prepared.specs.Tables.{prepared_words, first_read, tables_of};
 ghost use Rattle.tables.specs.Parts.{graph_part};
 
@@ -15,32 +14,33 @@ pub mod targets;
 use crate::listing::put_places;
 use crate::parts::put_part;
 use crate::targets::{STARTS, TARGETS, list_targets};
-use plan::numbers::{as_word, narrow_16};
+use graph::items::Items;
 use plan::state::MAX_ITEMS;
 use prepared::{FIRST_CODE, FIRST_READ, FIRST_SOURCE, FIRST_START, FIRST_TARGET, FIRST_WRITE};
 
 // Fills the parts before the places.
-fn put_graph(plan: &[u64], items: &[u16; MAX_ITEMS], n: usize, tables: &mut [u16])
-    requires { Graph plan.now items.now n × (first_read ≤ length tables.old) }
-    ensures { Added (graph_part (body_of plan.now)) 0 tables.old first_read tables.new }
+fn put_graph(items: &Items, tables: &mut [u16])
+    requires { first_read ≤ length tables.old }
+    ensures { Added (graph_part (body_of items.now.plan.now)) 0 tables.old first_read tables.new }
 {
+    let n = items.codes.len();
     let mut targets = [0u16; TARGETS];
     let mut starts = [0u16; STARTS];
     let mut sources = [0u16; MAX_ITEMS];
-    let count = list_targets(plan, items, n, &mut targets, &mut starts, &mut sources);
-    tables[0] = narrow_16(as_word(n));
-    put_part(items, n, tables, FIRST_CODE, FIRST_SOURCE);
+    let count = list_targets(items, &mut targets, &mut starts, &mut sources);
+    tables[0] = n as u16;
+    put_part(items.codes, n, tables, FIRST_CODE, FIRST_SOURCE);
     put_part(&sources, n, tables, FIRST_SOURCE, FIRST_START);
     put_part(&starts, n + 1, tables, FIRST_START, FIRST_TARGET);
     put_part(&targets, count, tables, FIRST_TARGET, FIRST_READ);
 }
 
 // Fills the tables of a plan.
-pub fn make_tables(plan: &[u64], items: &[u16; MAX_ITEMS], n: usize, tables: &mut [u16])
-    requires { Graph plan.now items.now n × (prepared_words ≤ length tables.old) }
-    ensures { tables.new ≡ tables_of (body_of plan.now) ++ drop prepared_words tables.old }
+pub fn make_tables(items: &Items, tables: &mut [u16])
+    requires { prepared_words ≤ length tables.old }
+    ensures { tables.new ≡ tables_of (body_of items.now.plan.now) ++ drop prepared_words tables.old }
 {
-    put_graph(plan, items, n, tables);
-    put_places(plan, items, n, false, tables, FIRST_READ);
-    put_places(plan, items, n, true, tables, FIRST_WRITE);
+    put_graph(items, tables);
+    put_places(items, false, tables, FIRST_READ);
+    put_places(items, true, tables, FIRST_WRITE);
 }

@@ -1,15 +1,14 @@
 // The targets of all items, where those of each start, and how many sources each item has, by one
 // walk from each item.
-ghost use Rattle.std.specs.Prelude.{◌+◌, ◌≤◌, ◌<◌, ◌≡◌, [], ◌∷◌, length, get_or, set, replicate};
+ghost use Rattle.std.specs.Prelude.{◌+◌, ◌≤◌, ◌<◌, ◌≡◌, [], ◌∷◌, length, get_or, set, replicate, MatchOption};
 ghost use Rattle.finite.specs.Below.{any_below};
 ghost use Rattle.finite.specs.Put.{Added, RoomAt};
 ghost use Rattle.plan.specs.Sizes.{max_items, max_edges};
 ghost use Rattle.plan.specs.Layout.{body_of};
-ghost use Rattle.graph.specs.Table.{Graph};
 ghost use Rattle.prepared.specs.Tables.{leads, targets_of};
 ghost use Rattle.tables.specs.Targets.{is_marked, row_of, Passed, Countable, RowPut, TargetsMade};
 
-use plan::numbers::{as_word, narrow_16};
+use graph::items::Items;
 use plan::state::MAX_ITEMS;
 use walk::rows::mark_row;
 
@@ -28,7 +27,7 @@ fn put_target(targets: &mut [u16], at: usize, b: usize, sources: &mut [u16]) -> 
     ensures { Added (b ∷ []) at targets.old result targets.new
         × (sources.new ≡ set sources.old b (get_or sources.old b 0 + 1)) }
 {
-    targets[at] = narrow_16(as_word(b));
+    targets[at] = b as u16;
     sources[b] += 1;
     at + 1
 }
@@ -39,10 +38,8 @@ fn any_marked(marks: &[u8; MAX_ITEMS], b: usize) -> bool
     ensures { result ≡ any_below 16 (λ k. is_marked marks.now (b + k)) }
 {
     let mut found = false;
-    let mut k: usize = 0;
-    while k < BLOCK {
-        found = found | (marks[b + k] == 1);
-        k += 1;
+    for k in 0..BLOCK {
+        found |= marks[b + k] == 1;
     }
     found
 }
@@ -53,28 +50,26 @@ fn skip_blocks(marks: &[u8; MAX_ITEMS], b: usize, n: usize) -> usize
     ensures { Passed marks.now b n result }
 {
     let mut at = b;
-    while at + BLOCK <= n {
-        if any_marked(marks, at) {
-            return at;
-        }
+    // an index: it skips blocks and stops at the first with a mark, for speed
+    while at + BLOCK <= n && !any_marked(marks, at) {
         at += BLOCK;
     }
     at
 }
 
-// The first item from b on that is marked, of n; n where there is none.
-fn next_marked(marks: &[u8; MAX_ITEMS], b: usize, n: usize) -> usize
+// The first item from b on that is marked, of n.
+fn next_marked(marks: &[u8; MAX_ITEMS], b: usize, n: usize) -> Option<usize>
     requires { (b ≤ n) × (n ≤ max_items) }
-    ensures { Passed marks.now b n result × (result < n → get_or marks.now result 0 ≡ 1) }
+    ensures { MatchOption result
+        (Passed marks.now b n n)
+        (λ r. Passed marks.now b n r × (r < n) × (get_or marks.now r 0 ≡ 1)) }
 {
-    let mut at = skip_blocks(marks, b, n);
-    while at < n {
+    for at in skip_blocks(marks, b, n)..n {
         if marks[at] == 1 {
-            return at;
+            return Some(at);
         }
-        at += 1;
     }
-    at
+    None
 }
 
 // Puts the items that are marked, and counts a source of each.
@@ -90,54 +85,43 @@ fn put_row(
         targets.old sources.old result targets.new sources.new }
 {
     let mut end = at;
-    let mut b = next_marked(marks, 0, n);
-    while b < n {
+    let mut passed: usize = 0;
+    while let Some(b) = next_marked(marks, passed, n) {
         end = put_target(targets, end, b, sources);
-        b = next_marked(marks, b + 1, n);
+        passed = b + 1;
     }
     end
 }
 
 // Puts the targets of item a, and counts it as a source of each. Its edge to itself is left out.
-fn put_from(
-    plan: &[u64],
-    items: &[u16; MAX_ITEMS],
-    n: usize,
-    a: usize,
-    targets: &mut [u16],
-    at: usize,
-    sources: &mut [u16],
-) -> usize
-    requires { Graph plan.now items.now n × (a < n) × RoomAt (targets_of (body_of plan.now) a) at targets.old × Countable sources.old }
-    ensures { RowPut (targets_of (body_of plan.now) a) (leads (body_of plan.now) a) n at
+fn put_from(items: &Items, a: usize, targets: &mut [u16], at: usize, sources: &mut [u16]) -> usize
+    requires { (a < length items.now.codes.now) × RoomAt (targets_of (body_of items.now.plan.now) a) at targets.old × Countable sources.old }
+    ensures { RowPut (targets_of (body_of items.now.plan.now) a) (leads (body_of items.now.plan.now) a) (length items.now.codes.now) at
         targets.old sources.old result targets.new sources.new }
 {
     let mut marks = [0u8; MAX_ITEMS];
-    mark_row(plan, items, n, a, false, &mut marks);
+    mark_row(items, a, false, &mut marks);
     marks[a] = 0;
-    put_row(targets, at, &marks, n, sources)
+    put_row(targets, at, &marks, items.codes.len(), sources)
 }
 
 // Puts all targets, their starts, and counts the sources. Answers how many targets there are.
 pub(crate) fn list_targets(
-    plan: &[u64],
-    items: &[u16; MAX_ITEMS],
-    n: usize,
+    items: &Items,
     targets: &mut [u16],
     starts: &mut [u16],
     sources: &mut [u16],
 ) -> usize
-    requires { Graph plan.now items.now n × (length targets.old ≡ max_edges) × (length starts.old ≡ max_items + 1)
+    requires { (length targets.old ≡ max_edges) × (length starts.old ≡ max_items + 1)
         × (sources.old ≡ replicate max_items 0) }
-    ensures { TargetsMade (body_of plan.now) n result targets.new starts.new sources.new }
+    ensures { TargetsMade (body_of items.now.plan.now) (length items.now.codes.now) result targets.new starts.new sources.new }
 {
     let mut at: usize = 0;
-    let mut a: usize = 0;
-    while a < n {
-        starts[a] = narrow_16(as_word(at));
-        at = put_from(plan, items, n, a, targets, at, sources);
-        a += 1;
+    let n = items.codes.len();
+    for a in 0..n {
+        starts[a] = at as u16;
+        at = put_from(items, a, targets, at, sources);
     }
-    starts[n] = narrow_16(as_word(at));
+    starts[n] = at as u16;
     at
 }

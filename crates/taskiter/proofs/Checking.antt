@@ -2,33 +2,30 @@
 -- check behind it answer. P is the lent plan, C and W the counts and values.
 use Prim.Native.Nat.{ℕ, ◌≤◌}
 use mathlib.Core.Path.{◌≡◌, sym, ◌∙◌, ap}
-use mathlib.Core.Bool.{true, ◌&&◌}
+use mathlib.Core.Bool.{true}
 use mathlib.Core.List.{List}
-use native.Mathlib.Omega.{arith}
-use borrow.Author.Tests.{eq-eqb, ne_eqb}
+use borrow.Author.Tests.{ne_eqb}
 use lib.Dec.{leb}
 use lib.ListN.{length, take}
+use Rattle.std.specs.Prelude.{Ok, Err}
+use Rattle.plan.specs.declared.refusal.Refusal.{Refusal}
+use Rattle.plan.specs.Refusals.{number_of}
 use Rattle.plan.specs.Layout.{plan_words}
 use Rattle.plan.specs.Sizes.{count_words, value_words}
-use Rattle.graph.specs.declared.Number.{Number}
 use Rattle.graph.specs.Answers.{plan_body}
 use Rattle.steps.specs.Answers.{Left, refused, open_of}
 use Rattle.steps.specs.Calls.{lent, lent_by}
 use Rattle.steps.proofs.Accepting.{long_slices_lem}
-use Rattle.steps.proofs.Answering.{short_test, short_slices, open_short}
+use Rattle.steps.proofs.Answering.{short_test, short_slices}
 use Rattle.prepared.specs.Tables.{tables_of}
 use Rattle.prepared.specs.Calls.{call_in}
 use Rattle.prepared.proofs.Reached.{open_long, open_formed, shown_opening, shown_clear}
-use Rattle.journal.specs.Checking.{check_from, check_of, check_more_of, told_check}
+use Rattle.journal.specs.Checking.{check_from, check_of, check_more_of}
 use Rattle.journal.proofs.Tables.{open_same}
 use Rattle.journal.proofs.Reaching.{check_opened}
-use Rattle.doors.specs.declared.Entry.{Entry}
-use Rattle.doors.specs.Doors.{ByPlan, ByState}
-use Rattle.taskiter.proofs.Exported.{open_refused, open_passed}
-
--- a number that tells of a refusal
-told_number : (P C W : List ℕ) (n : ℕ) (q : Number) → q ≡ record { refusal = n; number = 0 } → told_check q C W ≡ refused P C W n
-told_number P C W n q e = ap (λ (x : Number). told_check x C W) e
+use Rattle.doors.specs.Doors.{ByState}
+use Rattle.plan.proofs.Refusals.{number_above}
+use Rattle.taskiter.proofs.Exported.{open_passed}
 
 module _ (P C W J : List ℕ) where
   -- by what the opening answers
@@ -36,12 +33,8 @@ module _ (P C W J : List ℕ) where
   unfolding check_of
   closed x e n = e ∙ sym (rw (ne_eqb (open_of P C W).refusal 0 (λ z. n (ap (λ (r : Left). r.refusal) e ∙ z))))
 
-  pub check_short : short_test P C W ≡ true → (q : Number) → q ≡ record { refusal = 11; number = 0 } → told_check q C W ≡ check_of P C W J
-  check_short h q e = told_number P C W 11 q e ∙ closed (refused P C W 11) (open_short P C W h) (λ z. let y : ◌≡◌ {A = ℕ} 11 0 = z in omega arith)
-
-  pub check_refused : (table table' : List ℕ) (r : Entry) → ByPlan P (leb count_words (length C) && leb value_words (length W)) table r table' → (r.refusal ≡ 0 → ⊥) → (q : Number) → q ≡ record { refusal = r.refusal; number = 0 } →
-      told_check q C W ≡ check_of P C W J
-  check_refused table table' r B n q e = told_number P C W r.refusal q e ∙ closed (refused P C W r.refusal) (open_refused P C W table table' r B n) n
+  pub check_refused : (e : Refusal) (C' W' : List ℕ) → refused P C' W' (number_of e) ≡ open_of P C W → refused P C' W' (number_of e) ≡ check_of P C W J
+  check_refused e C' W' o = closed (refused P C' W' (number_of e)) o (number_above e)
 
   pub opening_passed : plan_words ≤ length P → (C' W' : List ℕ) → ◌≡◌ {A = Left} (record { refusal = 0; word = 0; counts = C'; values = W' }) (open_of (take plan_words P) C W) →
       ◌≡◌ {A = Left} (record { refusal = 0; word = 0; counts = C'; values = W' }) (open_of P C W)
@@ -65,15 +58,16 @@ module _ (P C W J : List ℕ) where
         ∙ (open_same P C W opened J ∙ sym (check_opened P C W opened J)))
 
   -- by the lent state
-  pub more_short : short_test P C W ≡ true → (q : Number) → q ≡ record { refusal = 11; number = 0 } → told_check q C W ≡ check_more_of P C W J
+  pub more_short : short_test P C W ≡ true → refused P C W 11 ≡ check_more_of P C W J
   unfolding check_more_of
-  more_short h q e = told_number P C W 11 q e ∙ sym (rw (short_slices P C W h))
+  more_short h = sym (rw (short_slices P C W h))
 
-  module _ {table : List ℕ} (r : Entry) (table' : List ℕ) (B : ByState P C (leb value_words (length W)) table r table') where
-    pub more_refused : (r.refusal ≡ 0 → ⊥) → (q : Number) → q ≡ record { refusal = r.refusal; number = 0 } → told_check q C W ≡ check_more_of P C W J
+  module _ {table : List ℕ} (table' : List ℕ) where
+    pub more_refused : (e : Refusal) → ByState P C (leb value_words (length W)) table (Err e) table' → refused P C W (number_of e) ≡ check_more_of P C W J
     unfolding check_more_of
-    more_refused n q e = told_number P C W r.refusal q e ∙ sym (rw (← B.refusal, ne_eqb r.refusal 0 n))
+    more_refused e B = sym (rw (← B.refusal, ne_eqb (number_of e) 0 (number_above e)))
 
-    pub more_made : r.refusal ≡ 0 → (x : Left) → x ≡ check_from (call_in P (tables_of (plan_body P))) P (lent C W) J → x ≡ check_more_of P C W J
+    pub more_made : (n : ℕ) → ByState P C (leb value_words (length W)) table (Ok n) table' → (x : Left) →
+        x ≡ check_from (call_in P (tables_of (plan_body P))) P (lent C W) J → x ≡ check_more_of P C W J
     unfolding check_more_of
-    more_made z x e = e ∙ sym (rw (← B.refusal, eq-eqb r.refusal 0 z))
+    more_made n B x e = e ∙ sym (rw (← B.refusal))

@@ -15,6 +15,9 @@ use Rattle.finite.proofs.Replaced.{length_replaced, replaced_at, replaced_not}
 use Rattle.body.specs.Items.{task, item_list, item_count, item_at}
 use Rattle.body.specs.Places.{result_of as region_result}
 use Rattle.plan.specs.Sizes.{max_items, edge_words, count_words, value_words, result_words}
+use Rattle.std.specs.Prelude.{Result, Ok, Err}
+use Rattle.plan.specs.declared.refusal.Refusal.{Refusal}
+use Rattle.plan.specs.Refusals.{number_of, refusal_number}
 use Rattle.plan.specs.Layout.{plan_words, body_of, regions_of}
 use Rattle.graph.specs.Table.{code_of, table_of, Graph}
 use Rattle.graph.specs.Answers.{refusal_of, long_plan, formed_plan, plan_body}
@@ -25,8 +28,8 @@ use Rattle.steps.specs.Turns.{Going, Over}
 use Rattle.steps.proofs.Accepting.{refusal_none, long_slices_lem, open_accepted, result_shown}
 use Rattle.values.specs.Items.{Formed}
 use Rattle.values.proofs.Plans.{facts}
-use Rattle.doors.specs.declared.Entry.{Entry}
 use Rattle.doors.specs.Doors.{ByPlan}
+use Rattle.plan.proofs.Refusals.{number_above}
 use Rattle.calls.specs.Drawn.{Drawn}
 use Rattle.calls.proofs.Behind.{graph_formed, result_apart}
 use Rattle.taskiter.specs.declared.Outcome.{Outcome}
@@ -64,18 +67,18 @@ module _ (P T L C W R : List ℕ) where
   lists_long = leb edge_words (length L) && leb result_words (length R)
 
   -- the door by the plan, which is told whether the other slices are long enough
-  module _ (room : max_items ≤ length T) (d : Entry) (T1 : List ℕ)
-      (B : ByPlan P (state_long && lists_long) (take max_items T) d T1) where
-    refusal_is : d.refusal ≡ refusal_of (long_run P T L C W R) (formed_plan P) true
-    refusal_is = B.refusal ∙ rw (le-leb max_items (length T) room)
+  module _ (room : max_items ≤ length T) (T1 : List ℕ) where
+    refusal_is : (d : Result ℕ Refusal) → ByPlan P (state_long && lists_long) (take max_items T) d T1 → refusal_number d ≡ refusal_of (long_run P T L C W R) (formed_plan P) true
+    refusal_is d B = B.refusal ∙ rw (le-leb max_items (length T) room)
 
-    pub run_refused : (r : Outcome) → (d.refusal ≡ 0 → ⊥) → r ≡ record { refusal = d.refusal; items = 0; edges = 0; steps = 0 } → Shown P T L C W R r (T1 ++ drop max_items T) L C W R
-    run_refused r n e = refused_by d.refusal r (T1 ++ drop max_items T) n e refusal_is (items_kept P T room _ d T1 B d.items refl n)
+    pub run_refused : (e : Refusal) → ByPlan P (state_long && lists_long) (take max_items T) (Err e) T1 → (r : Outcome) →
+        r ≡ record { refusal = number_of e; items = 0; edges = 0; steps = 0 } → Shown P T L C W R r (T1 ++ drop max_items T) L C W R
+    run_refused e B r h = refused_by (number_of e) r (T1 ++ drop max_items T) (number_above e) h (refusal_is (Err e) B) (items_kept P T room _ T1 e B)
 
-    module _ (z : d.refusal ≡ 0) where
+    module _ (n : ℕ) (B : ByPlan P (state_long && lists_long) (take max_items T) (Ok n) T1) where
       passed : (long_plan P ≡ true) × ((state_long && lists_long) ≡ true) × (formed_plan P ≡ true)
       passed =
-          let p = refusal_none (long_plan P && (state_long && lists_long)) (formed_plan P) true (sym B.refusal ∙ z) in
+          let p = refusal_none (long_plan P && (state_long && lists_long)) (formed_plan P) true (sym B.refusal) in
           let q = and-true (long_plan P) (state_long && lists_long) p.0 in
           (q.0, q.1, p.1)
 
@@ -90,32 +93,34 @@ module _ (P T L C W R : List ℕ) where
           (leb-true edge_words (length L) s.0, leb-true result_words (length R) s.1)
 
       pub plan_room : plan_words ≤ length P
-      plan_room = graph_room P T1 d.items (B.clear z)
+      plan_room = graph_room P T1 n B.clear
 
-      pub lent_graph : Graph (take plan_words P) (T1 ++ drop max_items T) d.items
+      pub lent_graph : Graph (take plan_words P) (T1 ++ drop max_items T) n
       unfolding item_at
       lent_graph =
-          let G = B.clear z in
+          let G = B.clear in
           record {
             long = G.long;
             formed = G.formed;
             count = G.count;
             most = G.most;
             each = λ a l.
-                ap (λ (t : List ℕ). get_or t a 0) (items_whole P T room _ d T1 B d.items refl z)
+                ap (λ (t : List ℕ). get_or t a 0) (items_whole P T room _ T1 n B)
                 ∙ (get_or-append (table_of (plan_body P)) (drop (item_count (plan_body P)) T) 0 a (omega (arith, l, G.count, length-map (item_list (plan_body P)) (code_of (plan_body P))))
                 ∙ get_d_map (code_of (plan_body P)) (item_list (plan_body P)) a (task 0) 0 (omega (arith, G.count)));
           }
 
       table_long : length (T1 ++ drop max_items T) ≡ length T
       table_long =
-          ap length (items_whole P T room _ d T1 B d.items refl z)
+          ap length (items_whole P T room _ T1 n B)
           ∙ (length-append (table_of (plan_body P)) (drop (item_count (plan_body P)) T)
-          ∙ omega (arith, length-map (item_list (plan_body P)) (code_of (plan_body P)), length-drop (item_count (plan_body P)) T, (B.clear z).count, (B.clear z).most, room))
+          ∙ omega (arith, length-map (item_list (plan_body P)) (code_of (plan_body P)), length-drop (item_count (plan_body P)) T, B.clear.count, B.clear.most, room))
 
-      pub run_asks : Graph (take plan_words P) (T1 ++ drop max_items T) d.items × (d.items ≤ length (T1 ++ drop max_items T))
-          × (edge_words ≤ length L) × (count_words ≤ length C) × (value_words ≤ length W)
-      run_asks = (lent_graph, omega (arith, table_long, room, (B.clear z).most), lists.0, state.0, state.1)
+      pub items_ask : Graph (take plan_words P) (T1 ++ drop max_items T) n × (n ≤ length (T1 ++ drop max_items T))
+      items_ask = (lent_graph, omega (arith, table_long, room, B.clear.most))
+
+      pub run_asks : (edge_words ≤ length L) × (count_words ≤ length C) × (value_words ≤ length W)
+      run_asks = (lists.0, state.0, state.1)
 
       module _ (m steps : ℕ) (L' C' W' : List ℕ) (D : Drawn (take plan_words P) L m L')
           (G : Going (take plan_words P) (lent_by (open_of (take plan_words P) C W)) (lent C' W') steps × Over (take plan_words P) (lent C' W')) where
@@ -123,25 +128,25 @@ module _ (P T L C W R : List ℕ) where
         ran_is = run_ran P C W ((open_accepted P C W).1 ((long_slices_lem P C W).1 (plan_room, state.0, state.1), passed.2)) C' W' steps G
 
         pub results_ask : Formed (take plan_words P) × (value_words ≤ length W') × (result_words ≤ length R)
-        results_ask = (graph_formed (take plan_words P) T1 d.items (B.clear z), G.0.idle.long_values, lists.1)
+        results_ask = (graph_formed (take plan_words P) T1 n B.clear, G.0.idle.long_values, lists.1)
 
-        pub run_shown : (i k : ℕ) (R' : List ℕ) → i ≡ d.items → k ≡ m →
+        pub run_shown : (R' : List ℕ) →
             R' ≡ replaced (λ g. ltb g (regions_of (take plan_words P))) (region_result (body_of (take plan_words P)) (state_of [] W')) R →
-            Shown P T L C W R (record { refusal = 0; items = i; edges = k; steps = steps }) (T1 ++ drop max_items T) L' C' W' R'
-        run_shown i k R' ei ek f =
+            Shown P T L C W R (record { refusal = 0; items = n; edges = m; steps = steps }) (T1 ++ drop max_items T) L' C' W' R'
+        run_shown R' f =
             record {
-              refusal = sym z ∙ refusal_is;
+              refusal = refusal_is (Ok n) B;
               refused = λ n. absurd (n refl);
               items = λ y.
                   record {
                     refusal = rw (passed.0, le-leb max_items (length T) room, passed.2);
-                    listed = λ x. (ei ∙ (B.clear z).count, items_whole P T room _ d T1 B d.items refl z);
+                    listed = λ x. (B.clear.count, items_whole P T room _ T1 n B);
                     refused = λ n. absurd (n refl);
                   };
-              edges = λ y. edges_listed P L passed.2 plan_room lists.0 m k L' D ek;
+              edges = λ y. edges_listed P L passed.2 plan_room lists.0 m m L' D refl;
               ran = λ y. ran_is;
               results = λ y g l.
-                  let few : g < length R = omega (arith, l, (facts (take plan_words P) (graph_formed (take plan_words P) T1 d.items (B.clear z))).regions_most, lists.1) in
+                  let few : g < length R = omega (arith, l, (facts (take plan_words P) (graph_formed (take plan_words P) T1 n B.clear)).regions_most, lists.1) in
                   let shown = ap (λ (x : Left). x.word) (result_shown P C' W' g ((ran_is.ran refl).results g l).0) in
                   ap (λ (x : List ℕ). get_or x g 0) f
                   ∙ (replaced_at (λ g. ltb g (regions_of (take plan_words P))) (region_result (plan_body P) (state_of [] W')) R g few

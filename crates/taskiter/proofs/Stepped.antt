@@ -1,41 +1,37 @@
 -- Preparing, and a finish by tables that lists what it makes ready, in code: what a refused call
 -- leaves, and what an accepted one does.
 use Prim.Native.Nat.{ℕ, ◌+◌, ◌≤◌, ◌<◌}
-use mathlib.Core.Path.{◌≡◌, refl, sym, ◌∙◌, ap}
+use mathlib.Core.Path.{◌≡◌, refl, sym, ◌∙◌}
 use mathlib.Core.List.{List, ◌∷◌, ◌++◌}
 use native.Mathlib.Omega.{arith}
 use borrow.Author.Tests.{lt-ltb, le-ltb, le-leb}
 use lib.Dec.{leb}
 use lib.ListN.{length, take, drop}
+use Rattle.std.specs.Prelude.{Err}
+use Rattle.plan.specs.declared.refusal.Refusal.{Refusal}
 use Rattle.plan.specs.Layout.{plan_words, body_of}
 use Rattle.plan.specs.Sizes.{max_items}
-use Rattle.graph.specs.declared.Number.{Number}
 use Rattle.graph.specs.Table.{Graph}
 use Rattle.steps.specs.Answers.{Left}
 use Rattle.prepared.specs.Tables.{prepared_words, tables_of, PrepareAnswer}
 use Rattle.prepared.specs.Steps.{finished_in, freed_in, FreeingAnswer}
 use Rattle.ranges.specs.Judged.{finish_refusal}
 use Rattle.checker.proofs.Stepping.{finish_refused, finish_made}
-use Rattle.doors.specs.declared.Entry.{Entry}
 use Rattle.doors.specs.Doors.{ByPlan}
+use Rattle.plan.proofs.Refusals.{number_above}
+use Rattle.taskiter.specs.Told.{number_told}
 
 -- preparing
 module _ (P T : List ℕ) where
-  pub prepare_refused : (table table' : List ℕ) (r : Entry) (q : Number) → ByPlan P (leb prepared_words (length T)) table r table' → (r.refusal ≡ 0 → ⊥) →
-      q ≡ record { refusal = r.refusal; number = 0 } → PrepareAnswer P T q T
-  prepare_refused table table' r q B n e =
-      record {
-        refusal = ap (λ (x : Number). x.refusal) e ∙ B.refusal;
-        made = λ z. absurd (n (sym (ap (λ (x : Number). x.refusal) e) ∙ z));
-        refused = λ z. (ap (λ (x : Number). x.number) e, refl);
-      }
+  pub prepare_refused : (table table' : List ℕ) (e : Refusal) → ByPlan P (leb prepared_words (length T)) table (Err e) table' → PrepareAnswer P T (number_told (Err e)) T
+  prepare_refused table table' e B = record { refusal = B.refusal; made = λ z. absurd (number_above e z); refused = λ z. (refl, refl) }
 
-  pub prepare_made : (table : List ℕ) (n k : ℕ) → Graph (take plan_words P) table n → plan_words ≤ length P → prepared_words ≤ length T → (T' : List ℕ) →
-      T' ≡ tables_of (body_of (take plan_words P)) ++ drop prepared_words T → k ≡ n → PrepareAnswer P T (record { refusal = 0; number = k }) T'
-  prepare_made table n k G p l T' e h =
+  pub prepare_made : (table : List ℕ) (n : ℕ) → Graph (take plan_words P) table n → plan_words ≤ length P → prepared_words ≤ length T → (T' : List ℕ) →
+      T' ≡ tables_of (body_of (take plan_words P)) ++ drop prepared_words T → PrepareAnswer P T (record { refusal = 0; number = n }) T'
+  prepare_made table n G p l T' e =
       record {
         refusal = rw (le-leb plan_words (length P) p, le-leb prepared_words (length T) l, G.formed);
-        made = λ z. (h ∙ G.count, e);
+        made = λ z. (G.count, e);
         refused = λ z. absurd (z refl);
       }
 

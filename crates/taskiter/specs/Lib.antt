@@ -4,3 +4,4 @@ pub mod Kept
 pub mod Demands
 pub mod Run
 pub mod Shown
+pub mod Told

@@ -4,20 +4,26 @@
 // nothing between calls.
 #![tactic(auto)]
 
-ghost use Rattle.std.specs.Prelude.{◌≡◌, cond};
+ghost use Rattle.std.specs.Prelude.{◌≡◌, IfOk, take};
+ghost use Rattle.plan.specs.Layout.{plan_words};
+ghost use Rattle.plan.specs.Sizes.{max_items};
+ghost use Rattle.plan.specs.Refusals.{number_of, refusal_number};
 ghost use Rattle.reader.specs.Answer.{Reads};
+ghost use Rattle.graph.specs.Table.{Graph};
 ghost use Rattle.graph.specs.Answers.{ItemsAnswer, EdgesAnswer, TotalAnswer};
 ghost use Rattle.steps.specs.Answers.{open_of, start_of, finish_of, result_of};
-ghost use Rattle.steps.specs.Calls.{start, finish, lent, call};
+ghost use Rattle.steps.specs.Calls.{lent, call};
 ghost use Rattle.steps.specs.Ready.{ReadyAnswer};
 ghost use Rattle.prepared.specs.Tables.{PrepareAnswer};
 ghost use Rattle.prepared.specs.Steps.{start_prepared, finish_prepared, FreeingAnswer};
 ghost use Rattle.journal.specs.Checking.{check_of, check_more_of, told_check};
 ghost use Rattle.writer.specs.Answer.{WriteAnswer};
-ghost use Rattle.calls.specs.Told.{told, told_opening};
+ghost use Rattle.calls.specs.Told.{answer_of, told, told_opening};
+ghost use Rattle.taskiter.specs.Told.{number_told};
 ghost use Rattle.taskiter.specs.Played.{call_of, Played};
 ghost use Rattle.taskiter.specs.Shown.{Shown};
 
+use calls::Answer;
 use calls::drawing::list_edges;
 use calls::finishes::finish_clear;
 use calls::openings::open_clear;
@@ -25,16 +31,17 @@ use calls::ready::ready_clear;
 use calls::results::result_clear;
 use calls::starts::start_clear;
 use calls::totals::total_steps;
-use calls::{Answer, no_word};
 use checker::check_clear;
 use doors::{enter_plan, enter_state, is_short};
 use engine::finishes::finish_item;
 use engine::starts::start_item;
-use graph::{Number, no_number};
+use graph::Number;
+use graph::items::Items;
 use plan::layout::PLAN_WORDS;
 use plan::limits::MAX_ACCESSES;
-use plan::numbers::{as_index, as_word};
+use plan::refusal::Refusal;
 use plan::state::{COUNTS, Count, EDGE_WORDS, MAX_ITEMS, RESULTS, VALUES};
+use plan::words::Plan;
 use prepared::PREPARED;
 use ranges::{finish_refusal, start_refusal};
 use runs::run_clear;
@@ -43,6 +50,19 @@ use tables::make_tables;
 
 // The numbers of a list of freed items: how many they are, and they.
 const FREED: usize = 641;
+
+// A number, or a refusal, as C gets it.
+fn number(found: Result<u64, Refusal>) -> Number
+    ensures { result ≡ number_told found }
+{
+    match found {
+        Ok(number) => Number { refusal: 0, number },
+        Err(refusal) => Number {
+            refusal: u64::from(refusal),
+            number: 0,
+        },
+    }
+}
 
 // Reads a text into a lent plan.
 pub fn taskiter_read(text: &[u8], plan: &mut [u64]) -> reader::Answer
@@ -56,44 +76,50 @@ pub fn taskiter_read(text: &[u8], plan: &mut [u64]) -> reader::Answer
 pub fn taskiter_items(plan: &[u64], table: &mut [u16]) -> Number
     ensures { ItemsAnswer plan.now table.old result table.new }
 {
+    number(try_items(plan, table))
+}
+
+fn try_items(plan: &[u64], table: &mut [u16]) -> Result<u64, Refusal>
+    ensures { ItemsAnswer plan.now table.old (number_told result) table.new }
+{
     if table.len() < MAX_ITEMS {
-        return no_number(11);
+        return Err(Refusal::TooShort);
     }
-    let entry = enter_plan(plan, true, &mut table[..MAX_ITEMS]);
-    Number {
-        refusal: entry.refusal,
-        number: as_word(entry.items),
-    }
+    let n = enter_plan(plan, true, &mut table[..MAX_ITEMS])?;
+    Ok(n as u64)
 }
 
 // The edges of a plan: from, to and distance of each in the lent list, and how many they are.
 pub fn taskiter_edges(plan: &[u64], list: &mut [u32]) -> Number
     ensures { EdgesAnswer plan.now list.old result list.new }
 {
+    number(try_edges(plan, list))
+}
+
+fn try_edges(plan: &[u64], list: &mut [u32]) -> Result<u64, Refusal>
+    ensures { EdgesAnswer plan.now list.old (number_told result) list.new }
+{
     let mut table = [0u16; MAX_ITEMS];
-    let entry = enter_plan(plan, EDGE_WORDS <= list.len(), &mut table);
-    if entry.refusal != 0 {
-        return no_number(entry.refusal);
-    }
-    Number {
-        refusal: 0,
-        number: as_word(list_edges(&plan[..PLAN_WORDS], &table, entry.items, list)),
-    }
+    let n = enter_plan(plan, EDGE_WORDS <= list.len(), &mut table)?;
+    let plan = Plan::new(&plan[..PLAN_WORDS]);
+    let items = Items::new(&plan, &table, n);
+    Ok(list_edges(&items, list) as u64)
 }
 
 // The number of steps from an opening to the end.
 pub fn taskiter_total(plan: &[u64]) -> Number
     ensures { TotalAnswer plan.now result }
 {
+    number(try_total(plan))
+}
+
+fn try_total(plan: &[u64]) -> Result<u64, Refusal>
+    ensures { TotalAnswer plan.now (number_told result) }
+{
     let mut table = [0u16; MAX_ITEMS];
-    let entry = enter_plan(plan, true, &mut table);
-    if entry.refusal != 0 {
-        return no_number(entry.refusal);
-    }
-    Number {
-        refusal: 0,
-        number: total_steps(&plan[..PLAN_WORDS], &table, entry.items),
-    }
+    let n = enter_plan(plan, true, &mut table)?;
+    let plan = Plan::new(&plan[..PLAN_WORDS]);
+    Ok(total_steps(&Items::new(&plan, &table, n)))
 }
 
 // Writes a lent plan into a lent text; the number is the text's length.
@@ -115,49 +141,56 @@ pub fn taskiter_open(plan: &[u64], counts: &mut [Count], values: &mut [u64]) -> 
     ensures { told_opening result counts.new values.new ≡ open_of plan.now counts.old values.old }
 {
     if is_short(plan.len(), counts.len(), values.len()) {
-        return 11;
+        return u64::from(Refusal::TooShort);
     }
     let mut table = [0u16; MAX_ITEMS];
-    let long = (COUNTS <= counts.len()) & (VALUES <= values.len());
-    let entry = enter_plan(plan, long, &mut table);
-    if entry.refusal != 0 {
-        return entry.refusal;
+    match try_open(plan, counts, values, &mut table) {
+        Ok(_) => 0,
+        Err(refusal) => u64::from(refusal),
     }
-    open_clear(&plan[..PLAN_WORDS], &table, entry.items, counts, values);
-    0
 }
 
-// A step through the door by plan and counts: the start of an item, or its finish.
-fn take_step(
+// The table gets the plan's items; answers their number.
+fn try_open(
     plan: &[u64],
     counts: &mut [Count],
     values: &mut [u64],
-    item: u64,
-    starts: bool,
-) -> Answer
-    ensures { told result counts.new values.new
-        ≡ call plan.now (lent counts.old values.old) (cond starts (start item) (finish item)) }
+    table: &mut [u16; MAX_ITEMS],
+) -> Result<usize, Refusal>
+    ensures { (told_opening (refusal_number result) counts.new values.new ≡ open_of plan.now counts.old values.old)
+        × IfOk result (λ n. Graph (take plan_words plan.now) table.new n) }
 {
-    let mut table = [0u16; MAX_ITEMS];
-    let entry = enter_state(plan, counts, VALUES <= values.len(), &mut table);
-    if entry.refusal != 0 {
-        return no_word(entry.refusal);
-    }
-    let words = &plan[..PLAN_WORDS];
-    if starts {
-        return start_clear(words, &table, entry.items, counts, values, item);
-    }
-    finish_clear(words, &table, entry.items, counts, values, item)
+    let long = (COUNTS <= counts.len()) & (VALUES <= values.len());
+    let n = enter_plan(plan, long, table)?;
+    let plan = Plan::new(&plan[..PLAN_WORDS]);
+    let items = Items::new(&plan, table, n);
+    open_clear(&items, counts, values);
+    Ok(n)
 }
 
 // Starts the next pass of an item: it reads and computes its word, which is answered and held.
 pub fn taskiter_start(plan: &[u64], counts: &mut [Count], values: &mut [u64], item: u64) -> Answer
     ensures { told result counts.new values.new ≡ start_of plan.now counts.old values.old item }
 {
+    Answer::from(try_start(plan, counts, values, item))
+}
+
+fn try_start(
+    plan: &[u64],
+    counts: &mut [Count],
+    values: &mut [u64],
+    item: u64,
+) -> Result<u64, Refusal>
+    ensures { told (answer_of result) counts.new values.new ≡ start_of plan.now counts.old values.old item }
+{
     if is_short(plan.len(), counts.len(), values.len()) {
-        return no_word(11);
+        return Err(Refusal::TooShort);
     }
-    take_step(plan, counts, values, item, true)
+    let mut table = [0u16; MAX_ITEMS];
+    let n = enter_state(plan, counts, VALUES <= values.len(), &mut table)?;
+    let plan = Plan::new(&plan[..PLAN_WORDS]);
+    let items = Items::new(&plan, &table, n);
+    start_clear(&items, counts, values, item)
 }
 
 // Finishes the pass of an item that runs: the held word goes to the places that the item writes,
@@ -166,32 +199,45 @@ pub fn taskiter_start(plan: &[u64], counts: &mut [Count], values: &mut [u64], it
 pub fn taskiter_finish(plan: &[u64], counts: &mut [Count], values: &mut [u64], item: u64) -> Answer
     ensures { told result counts.new values.new ≡ finish_of plan.now counts.old values.old item }
 {
+    Answer::from(try_finish(plan, counts, values, item))
+}
+
+fn try_finish(
+    plan: &[u64],
+    counts: &mut [Count],
+    values: &mut [u64],
+    item: u64,
+) -> Result<u64, Refusal>
+    ensures { told (answer_of result) counts.new values.new ≡ finish_of plan.now counts.old values.old item }
+{
     if is_short(plan.len(), counts.len(), values.len()) {
-        return no_word(11);
+        return Err(Refusal::TooShort);
     }
-    take_step(plan, counts, values, item, false)
+    let mut table = [0u16; MAX_ITEMS];
+    let n = enter_state(plan, counts, VALUES <= values.len(), &mut table)?;
+    let plan = Plan::new(&plan[..PLAN_WORDS]);
+    let items = Items::new(&plan, &table, n);
+    finish_clear(&items, counts, values, item)
 }
 
 // The result of a region once the loop is complete.
 pub fn taskiter_result(plan: &[u64], counts: &[Count], values: &[u64], region: u64) -> Answer
     ensures { told result counts.now values.now ≡ result_of plan.now counts.now values.now region }
 {
+    Answer::from(try_result(plan, counts, values, region))
+}
+
+fn try_result(plan: &[u64], counts: &[Count], values: &[u64], region: u64) -> Result<u64, Refusal>
+    ensures { told (answer_of result) counts.now values.now ≡ result_of plan.now counts.now values.now region }
+{
     if is_short(plan.len(), counts.len(), values.len()) {
-        return no_word(11);
+        return Err(Refusal::TooShort);
     }
     let mut table = [0u16; MAX_ITEMS];
-    let entry = enter_state(plan, counts, VALUES <= values.len(), &mut table);
-    if entry.refusal != 0 {
-        return no_word(entry.refusal);
-    }
-    result_clear(
-        &plan[..PLAN_WORDS],
-        &table,
-        entry.items,
-        counts,
-        values,
-        region,
-    )
+    let n = enter_state(plan, counts, VALUES <= values.len(), &mut table)?;
+    let plan = Plan::new(&plan[..PLAN_WORDS]);
+    let items = Items::new(&plan, &table, n);
+    result_clear(&items, counts, values, region)
 }
 
 // The items whose start is accepted now: their numbers, rising, in the lent slice, and how many
@@ -199,35 +245,42 @@ pub fn taskiter_result(plan: &[u64], counts: &[Count], values: &[u64], region: u
 pub fn taskiter_ready(plan: &[u64], counts: &[Count], values: &[u64], items: &mut [u16]) -> Number
     ensures { ReadyAnswer plan.now counts.now values.now items.old result items.new }
 {
-    if is_short(plan.len(), counts.len(), values.len()) | (items.len() < MAX_ITEMS) {
-        return no_number(11);
+    number(try_ready(plan, counts, values, items))
+}
+
+fn try_ready(
+    plan: &[u64],
+    counts: &[Count],
+    values: &[u64],
+    list: &mut [u16],
+) -> Result<u64, Refusal>
+    ensures { ReadyAnswer plan.now counts.now values.now list.old (number_told result) list.new }
+{
+    if is_short(plan.len(), counts.len(), values.len()) | (list.len() < MAX_ITEMS) {
+        return Err(Refusal::TooShort);
     }
     let mut table = [0u16; MAX_ITEMS];
-    let entry = enter_state(plan, counts, VALUES <= values.len(), &mut table);
-    if entry.refusal != 0 {
-        return no_number(entry.refusal);
-    }
-    let number = ready_clear(&plan[..PLAN_WORDS], &table, entry.items, counts, items);
-    Number {
-        refusal: 0,
-        number: as_word(number),
-    }
+    let n = enter_state(plan, counts, VALUES <= values.len(), &mut table)?;
+    let plan = Plan::new(&plan[..PLAN_WORDS]);
+    let items = Items::new(&plan, &table, n);
+    Ok(ready_clear(&items, counts, list) as u64)
 }
 
 // Fills the tables of a plan in a lent slice, for steps by them; the number is that of its items.
 pub fn taskiter_prepare(plan: &[u64], tables: &mut [u16]) -> Number
     ensures { PrepareAnswer plan.now tables.old result tables.new }
 {
+    number(try_prepare(plan, tables))
+}
+
+fn try_prepare(plan: &[u64], tables: &mut [u16]) -> Result<u64, Refusal>
+    ensures { PrepareAnswer plan.now tables.old (number_told result) tables.new }
+{
     let mut table = [0u16; MAX_ITEMS];
-    let entry = enter_plan(plan, PREPARED <= tables.len(), &mut table);
-    if entry.refusal != 0 {
-        return no_number(entry.refusal);
-    }
-    make_tables(&plan[..PLAN_WORDS], &table, entry.items, tables);
-    Number {
-        refusal: 0,
-        number: as_word(entry.items),
-    }
+    let n = enter_plan(plan, PREPARED <= tables.len(), &mut table)?;
+    let plan = Plan::new(&plan[..PLAN_WORDS]);
+    make_tables(&Items::new(&plan, &table, n), tables);
+    Ok(n as u64)
 }
 
 // Starts the next pass of an item by the tables: it looks at the words of this item alone.
@@ -241,15 +294,23 @@ pub fn taskiter_start_prepared(
     ensures { told result counts.new values.new
         ≡ start_prepared plan.now tables.now counts.old values.old item }
 {
-    let refusal = start_refusal(plan, tables, counts, values.len(), item);
-    if refusal != 0 {
-        return no_word(refusal);
-    }
+    Answer::from(try_start_prepared(plan, tables, counts, values, item))
+}
+
+fn try_start_prepared(
+    plan: &[u64],
+    tables: &[u16],
+    counts: &mut [Count],
+    values: &mut [u64],
+    item: u64,
+) -> Result<u64, Refusal>
+    ensures { told (answer_of result) counts.new values.new
+        ≡ start_prepared plan.now tables.now counts.old values.old item }
+{
+    start_refusal(plan, tables, counts, values.len(), item)?;
     let mut room = [0u64; MAX_ACCESSES];
-    Answer {
-        refusal: 0,
-        word: start_item(plan, tables, as_index(item), counts, values, &mut room),
-    }
+    let a = item as usize;
+    Ok(start_item(&Plan::new(plan), tables, a, counts, values, &mut room))
 }
 
 // Finishes the pass of an item that runs by the tables, and lists the items that this makes ready.
@@ -264,17 +325,26 @@ pub fn taskiter_finish_freeing(
     ensures { FreeingAnswer plan.now tables.now counts.old values.old freed.old item
         (told result counts.new values.new) freed.new }
 {
+    Answer::from(try_finish_freeing(plan, tables, counts, values, freed, item))
+}
+
+fn try_finish_freeing(
+    plan: &[u64],
+    tables: &[u16],
+    counts: &mut [Count],
+    values: &mut [u64],
+    freed: &mut [u16],
+    item: u64,
+) -> Result<u64, Refusal>
+    ensures { FreeingAnswer plan.now tables.now counts.old values.old freed.old item
+        (told (answer_of result) counts.new values.new) freed.new }
+{
     if freed.len() < FREED {
-        return no_word(11);
+        return Err(Refusal::TooShort);
     }
-    let refusal = finish_refusal(plan, tables, counts, values.len(), item);
-    if refusal != 0 {
-        return no_word(refusal);
-    }
-    Answer {
-        refusal: 0,
-        word: finish_item(plan, tables, as_index(item), counts, values, freed),
-    }
+    finish_refusal(plan, tables, counts, values.len(), item)?;
+    let a = item as usize;
+    Ok(finish_item(&Plan::new(plan), tables, a, counts, values, freed))
 }
 
 // As `taskiter_finish_freeing`, with no list.
@@ -319,12 +389,10 @@ pub fn taskiter_play(
     if is_short(plan.len(), counts.len(), values.len()) | (answers.len() / 2 < calls.len()) {
         return 11;
     }
-    let mut k: usize = 0;
-    while k < calls.len() {
+    for k in 0..calls.len() {
         let answer = play_one(plan, counts, values, calls[k]);
         answers[2 * k] = answer.refusal;
         answers[2 * k + 1] = answer.word;
-        k += 1;
     }
     0
 }
@@ -341,16 +409,17 @@ pub fn taskiter_check(
         ≡ check_of plan.now counts.old values.old journal.now }
 {
     if is_short(plan.len(), counts.len(), values.len()) {
-        return no_number(11);
+        return number(Err(Refusal::TooShort));
     }
     let mut table = [0u16; MAX_ITEMS];
-    let long = (COUNTS <= counts.len()) & (VALUES <= values.len());
-    let entry = enter_plan(plan, long, &mut table);
-    if entry.refusal != 0 {
-        return no_number(entry.refusal);
+    match try_open(plan, counts, values, &mut table) {
+        Ok(n) => {
+            let words = Plan::new(&plan[..PLAN_WORDS]);
+            let items = Items::new(&words, &table, n);
+            check_clear(&Plan::new(plan), &items, counts, values, journal)
+        }
+        Err(refusal) => number(Err(refusal)),
     }
-    open_clear(&plan[..PLAN_WORDS], &table, entry.items, counts, values);
-    check_clear(plan, &table, entry.items, counts, values, journal)
 }
 
 // As `taskiter_check`, going on from the lent state instead of opening it.
@@ -364,18 +433,21 @@ pub fn taskiter_check_more(
         ≡ check_more_of plan.now counts.old values.old journal.now }
 {
     if is_short(plan.len(), counts.len(), values.len()) {
-        return no_number(11);
+        return number(Err(Refusal::TooShort));
     }
     let mut table = [0u16; MAX_ITEMS];
-    let entry = enter_state(plan, counts, VALUES <= values.len(), &mut table);
-    if entry.refusal != 0 {
-        return no_number(entry.refusal);
+    match enter_state(plan, counts, VALUES <= values.len(), &mut table) {
+        Ok(n) => {
+            let words = Plan::new(&plan[..PLAN_WORDS]);
+            let items = Items::new(&words, &table, n);
+            check_clear(&Plan::new(plan), &items, counts, values, journal)
+        }
+        Err(refusal) => number(Err(refusal)),
     }
-    check_clear(plan, &table, entry.items, counts, values, journal)
 }
 
 // What a run answers: refusal 0, and how many items, edges and steps there were; or a refusal, and
-// then zeros.
+// then zeros. (Not a Result: `Shown`, which docs/ names, speaks of the refusal's number.)
 #[derive(Clone, Copy)]
 pub struct Outcome {
     pub refusal: u64,
@@ -384,11 +456,11 @@ pub struct Outcome {
     pub steps: u64,
 }
 
-fn no_run(refusal: u64) -> Outcome
-    ensures { result ≡ record { refusal = refusal; items = 0; edges = 0; steps = 0 } }
+fn no_run(refusal: Refusal) -> Outcome
+    ensures { result ≡ record { refusal = number_of refusal; items = 0; edges = 0; steps = 0 } }
 {
     Outcome {
-        refusal: refusal,
+        refusal: u64::from(refusal),
         items: 0,
         edges: 0,
         steps: 0,
@@ -409,21 +481,22 @@ pub fn run(
         table.new list.new counts.new values.new results.new }
 {
     if table.len() < MAX_ITEMS {
-        return no_run(11);
+        return no_run(Refusal::TooShort);
     }
     let state = (COUNTS <= counts.len()) & (VALUES <= values.len());
     let long = state & ((EDGE_WORDS <= list.len()) & (RESULTS <= results.len()));
-    let entry = enter_plan(plan, long, &mut table[..MAX_ITEMS]);
-    if entry.refusal != 0 {
-        return no_run(entry.refusal);
-    }
-    let words = &plan[..PLAN_WORDS];
-    let ended = run_clear(words, table, entry.items, list, counts, values);
-    put_results(words, values, results);
+    let n = match enter_plan(plan, long, &mut table[..MAX_ITEMS]) {
+        Ok(n) => n,
+        Err(refusal) => return no_run(refusal),
+    };
+    let plan = Plan::new(&plan[..PLAN_WORDS]);
+    let items = Items::new(&plan, table, n);
+    let ended = run_clear(&items, list, counts, values);
+    put_results(&plan, values, results);
     Outcome {
         refusal: 0,
-        items: as_word(entry.items),
-        edges: as_word(ended.edges),
+        items: n as u64,
+        edges: ended.edges as u64,
         steps: ended.steps,
     }
 }

@@ -1,15 +1,14 @@
 -- Worked examples of the definitions, by computation: what a reader that is slightly wrong would
 -- get wrong. In bytes: a tab is 9, a line feed 10, a carriage return 13, a digit d is 48 + d.
-use Rattle.std.proofs.Common.{◌≡◌, [], ◌∷◌, refl}
+use Rattle.std.proofs.Common.{◌≡◌, [], ◌∷◌, refl, Some, None}
 use Rattle.text.specs.Text.{bytes}
 use Rattle.text.specs.Numbers.{well_formed, number_of}
 use Rattle.text.specs.Ascii.{ascii}
 use Rattle.text.specs.Words.{keyword_of}
-use Rattle.text.specs.Records.{first_field, record_of, line_at, record_at}
+use Rattle.text.specs.Records.{first_field, line_at, record_at, record_of, saying}
 use Rattle.text.specs.declared.Number.TheVariants.{Value, TooLarge, Malformed}
 use Rattle.text.specs.declared.Mode.{Mode}
 use Rattle.text.specs.declared.Record.TheVariants.{Loop, Start, Begin, Access, End, Unreadable}
-use Rattle.text.specs.declared.RecordAt.TheVariants.{Line, Unended}
 
 -- numbers
 
@@ -196,28 +195,28 @@ line_capital = refl
 
 -- lines in a text
 
-text_second_line : record_at (ascii "\nend\nx") 1 ≡ Line End 5
+text_second_line : record_at (ascii "\nend\nx") 1 ≡ Some (saying End 5)
 unfolding keyword_of
 text_second_line = refl
 
-text_empty_line : record_at (ascii "\nend") 0 ≡ Line Unreadable 1
+text_empty_line : record_at (ascii "\nend") 0 ≡ Some (saying Unreadable 1)
 unfolding keyword_of
 text_empty_line = refl
 
-text_return_line : record_at (ascii "end\r\n") 0 ≡ Line Unreadable 5
+text_return_line : record_at (ascii "end\r\n") 0 ≡ Some (saying Unreadable 5)
 unfolding keyword_of
 text_return_line = refl
 
-text_unended : record_at (ascii "end") 0 ≡ Unended
+text_unended : record_at (ascii "end") 0 ≡ None
 text_unended = refl
 
-text_empty : record_at [] 0 ≡ Unended
+text_empty : record_at [] 0 ≡ None
 text_empty = refl
 
-text_at_end : record_at (ascii "end\n") 4 ≡ Unended
+text_at_end : record_at (ascii "end\n") 4 ≡ None
 text_at_end = refl
 
-text_beyond : record_at (ascii "end\n") 9 ≡ Unended
+text_beyond : record_at (ascii "end\n") 9 ≡ None
 text_beyond = refl
 
 -- with its line feed; nothing where none follows, and at the end

@@ -5,8 +5,7 @@ use borrow.Author.Tests.{not-true}
 use Rattle.finite.proofs.Tests.{and_intro, and-true}
 use Rattle.text.specs.declared.Number.{Number}
 use Rattle.text.specs.declared.Number.TheVariants.{Value, TooLarge, Malformed}
-use Rattle.text.specs.declared.Two.TheVariants.{Pair, NoPair}
-use Rattle.text.specs.declared.Three.TheVariants.{Triple, NoTriple}
+use Rattle.std.specs.Prelude.{Some, None}
 use Rattle.text.specs.Numbers.{all_digits, decimal_after, is_digit, no_leading_zero, number_of, well_formed}
 use Rattle.text.specs.Digits.{decimal, digits}
 use Rattle.text.specs.Records.{one_of, onto, pair, sound, split, three_of, two_of}
@@ -108,26 +107,26 @@ one_fields [] = inl refl
 one_fields (a ∷ []) = inr (a, refl)
 one_fields (a ∷ b ∷ fs) = inl refl
 
-no_pair : (x : Number) → pair x Malformed ≡ NoPair
+no_pair : (x : Number) → pair x Malformed ≡ None
 no_pair (Value n) = refl
 no_pair TooLarge = refl
 no_pair Malformed = refl
 
-pub two_fields : (fs : List (List ℕ)) → (two_of fs ≡ NoPair) ⊎ ((a b : List ℕ) × (fs ≡ a ∷ b ∷ []) × (two_of fs ≡ Pair (number_of a) (number_of b)))
+pub two_fields : (fs : List (List ℕ)) → (two_of fs ≡ None) ⊎ ((a b : List ℕ) × (fs ≡ a ∷ b ∷ []) × (two_of fs ≡ Some (number_of a, number_of b)))
 two_fields [] = inl refl
 two_fields (a ∷ fs) = ⊎_elim (λ e. inl (rw e (no_pair (number_of a)))) (λ b. rw b.1 (go b.0 (sound (number_of a) && sound (number_of b.0)) refl)) (one_fields fs)
   where
     go : (b : List ℕ) (t : Bool) → (sound (number_of a) && sound (number_of b)) ≡ t →
-        (two_of (a ∷ b ∷ []) ≡ NoPair) ⊎ ((x y : List ℕ) × (a ∷ b ∷ [] ≡ x ∷ y ∷ []) × (two_of (a ∷ b ∷ []) ≡ Pair (number_of x) (number_of y)))
+        (two_of (a ∷ b ∷ []) ≡ None) ⊎ ((x y : List ℕ) × (a ∷ b ∷ [] ≡ x ∷ y ∷ []) × (two_of (a ∷ b ∷ []) ≡ Some (number_of x, number_of y)))
     go b true e = inr (a, b, refl, rw e)
     go b false e = inl (rw e)
 
 pub three_fields : (fs : List (List ℕ)) →
-    (three_of fs ≡ NoTriple) ⊎ ((a b c : List ℕ) × (fs ≡ a ∷ b ∷ c ∷ []) × (three_of fs ≡ Triple (number_of a) (number_of b) (number_of c)))
+    (three_of fs ≡ None) ⊎ ((a b c : List ℕ) × (fs ≡ a ∷ b ∷ c ∷ []) × (three_of fs ≡ Some (number_of a, number_of b, number_of c)))
 three_fields [] = inl refl
 three_fields (a ∷ fs) = ⊎_elim (λ e. inl (rw e)) (λ t. rw t.2 (go t.0 t.1 (rw t.2 at t.3) (sound (number_of a)) refl)) (two_fields fs)
   where
-    go : (b c : List ℕ) → two_of (b ∷ c ∷ []) ≡ Pair (number_of b) (number_of c) → (t : Bool) → sound (number_of a) ≡ t →
-        (three_of (a ∷ b ∷ c ∷ []) ≡ NoTriple) ⊎ ((x y z : List ℕ) × (a ∷ b ∷ c ∷ [] ≡ x ∷ y ∷ z ∷ []) × (three_of (a ∷ b ∷ c ∷ []) ≡ Triple (number_of x) (number_of y) (number_of z)))
+    go : (b c : List ℕ) → two_of (b ∷ c ∷ []) ≡ Some (number_of b, number_of c) → (t : Bool) → sound (number_of a) ≡ t →
+        (three_of (a ∷ b ∷ c ∷ []) ≡ None) ⊎ ((x y z : List ℕ) × (a ∷ b ∷ c ∷ [] ≡ x ∷ y ∷ z ∷ []) × (three_of (a ∷ b ∷ c ∷ []) ≡ Some (number_of x, number_of y, number_of z)))
     go b c e true s = inr (a, b, c, refl, rw (e, s))
     go b c e false s = inl (rw (e, s))

@@ -1,8 +1,8 @@
--- Laws of the definitions of `specs/Text.antt`, as the loops over a slice ask them: at an index i
--- of the list s.
-use Rattle.std.proofs.Common.{◌≡◌, ℕ, zero, suc, ◌+◌, ◌*◌, ◌/◌, ◌%◌, ◌<◌, ◌≤◌, Bool, true, false, List, [], ◌∷◌, length, get_or, take, drop, refl, ap, ◌∙◌, le_of_suc-le-suc, not-suc-le-zero, add-one, arith, drop_of_length-le, drop-cons}
-use Rattle.text.specs.Text.{before, bytes}
+-- Laws of the definitions of `specs/Text.antt`, as the searches of a slice ask them.
+use Rattle.std.proofs.Common.{◌≡◌, ℕ, zero, suc, ◌+◌, ◌<◌, ◌≤◌, Bool, true, false, List, [], ◌∷◌, length, get_or, take, drop, refl, add-one, drop_of_length-le, drop-cons, le_of_suc-le-suc, not-suc-le-zero, arith}
+use Rattle.text.specs.Text.{before}
 
+-- a search of a slice, at an index i of the list s
 module _ (p : ℕ → Bool) (s : List ℕ) (i : ℕ) where
   pub before_step : i < length s → p (get_or s i 0) ≡ false → before p (drop i s) ≡ suc (before p (drop (i + 1) s))
   before_step h e = rw (add-one, drop-cons s i 0, e)
@@ -12,6 +12,16 @@ module _ (p : ℕ → Bool) (s : List ℕ) (i : ℕ) where
 
   pub before_end : length s ≤ i → before p (drop i s) ≡ 0
   before_end h = rw drop_of_length-le
+
+-- the count is no longer than the list
+module _ (p : ℕ → Bool) where
+  pub before_most : (s : List ℕ) → before p s ≤ length s
+  before_most [] = omega arith
+  before_most (c ∷ s) = go (p c) refl (before_most s)
+    where
+      go : (t : Bool) → p c ≡ t → before p s ≤ length s → before p (c ∷ s) ≤ length (c ∷ s)
+      go true e h = rw e (omega arith)
+      go false e h = rw e (omega arith)
 
 -- the first n elements decide, where the search ends among them; else it goes on behind them
 module _ (p : ℕ → Bool) where
@@ -32,25 +42,3 @@ module _ (p : ℕ → Bool) where
       go : (t : Bool) → p c ≡ t → before p (take (suc n) (c ∷ s)) ≡ suc n → (before p (take n s) ≡ n → before p s ≡ n + before p (drop n s)) → before p (c ∷ s) ≡ suc n + before p (drop n s)
       go true e k ih = let z : 0 ≡ suc n = rw e at k in omega arith
       go false e k ih = let z : suc (before p (take n s)) ≡ suc n = rw e at k in rw e (omega (arith, ih (omega arith)))
-
--- a word's bytes, one by one from the low end, against those of a list from an index on
-module _ (s : List ℕ) (byte : (k : ℕ) → get_or s k 0 < 256) where
-  bytes_at : (n i j r : ℕ) → i < length s → j ≡ suc i → bytes n r ≡ take n (drop j s) → bytes (suc n) (get_or s i 0 + 256 * r) ≡ take (suc n) (drop i s)
-  bytes_at n i j r h e f =
-      let low : (get_or s i 0 + 256 * r) % 256 ≡ get_or s i 0 = omega (arith, byte i) in
-      let high : (get_or s i 0 + 256 * r) / 256 ≡ r = omega (arith, byte i) in
-      rw (low, high, drop-cons s i 0 h, f, e)
-
-  pub word_bytes : (i w : ℕ) → i + 8 ≤ length s
-      → w ≡ get_or s i 0 + 256 * (get_or s (i + 1) 0 + 256 * (get_or s (i + 2) 0 + 256 * (get_or s (i + 3) 0 + 256 * (get_or s (i + 4) 0 + 256 * (get_or s (i + 5) 0 + 256 * (get_or s (i + 6) 0 + 256 * get_or s (i + 7) 0))))))
-      → bytes 8 w ≡ take 8 (drop i s)
-  word_bytes i w h e =
-      ap (bytes 8) (e ∙ omega arith)
-      ∙ bytes_at 7 i (i + 1) _ (omega arith) (omega arith)
-      (bytes_at 6 (i + 1) (i + 2) _ (omega arith) (omega arith)
-      (bytes_at 5 (i + 2) (i + 3) _ (omega arith) (omega arith)
-      (bytes_at 4 (i + 3) (i + 4) _ (omega arith) (omega arith)
-      (bytes_at 3 (i + 4) (i + 5) _ (omega arith) (omega arith)
-      (bytes_at 2 (i + 5) (i + 6) _ (omega arith) (omega arith)
-      (bytes_at 1 (i + 6) (i + 7) _ (omega arith) (omega arith)
-      (bytes_at 0 (i + 7) (i + 8) 0 (omega arith) (omega arith) refl)))))))

@@ -1,10 +1,11 @@
 -- The line at an offset, and what it says of the rest of the text: the laws that a loop over the
 -- lines asks.
-use Rattle.std.proofs.Common.{◌≡◌, ℕ, ◌+◌, ◌-◌, ◌<◌, ◌≤◌, Bool, true, false, ltb, List, [], ◌∷◌, ◌++◌, length, take, drop, refl, ap, ◌∙◌, add-one, arith, length-append, length-drop, length-take-le, drop-drop, take_at, ltb-false, ltb-true}
+use Rattle.std.proofs.Common.{◌≡◌, ℕ, ◌+◌, ◌-◌, ◌<◌, ◌≤◌, Bool, true, false, ltb, List, [], ◌∷◌, ◌++◌, length, take, drop, refl, sym, ap, ◌∙◌, add-one, arith, length-append, length-drop, length-take-le, drop-drop, take_at, ltb-false, ltb-true, Option, Some, None}
 use Rattle.text.specs.Text.{before}
-use Rattle.text.specs.Records.{is, split, ended, record_of, line_at, record_at}
+use Rattle.text.specs.Records.{is, split, ended, line_at, next_of, record_at, record_of, saying}
+use Rattle.text.specs.declared.Line.{Line}
 use Rattle.text.specs.declared.Record.{Record}
-use Rattle.text.specs.declared.RecordAt.TheVariants.{Line, Unended}
+use Rattle.text.specs.declared.Record.TheVariants.{Unreadable}
 use Rattle.text.proofs.SplitLaws.{cut_last, cut_more, split_cons, take_before}
 
 -- the first line, where the first line feed stands at n
@@ -47,14 +48,19 @@ module _ (s : List ℕ) (at : ℕ) (l : List ℕ) (e : l ≡ line_at s at) where
           absurd (omega (arith, ap length (e ∙ ended_more rest_of size refl (ltb-true _ _ p)), length-append (take size rest_of) (10 ∷ [])))
       go false p = cut_last 10 rest_of size refl (ltb-false _ _ p)
 
-  pub record_found : 1 ≤ length l → record_at s at ≡ Line (record_of (take (length l - 1) l)) (at + length l)
+  pub record_found : 1 ≤ length l → record_at s at ≡ Some (saying (record_of (take (length l - 1) l)) (at + length l))
   record_found h =
       let r = split_cons 10 (drop (at + length l) s) in
       let n : at + length (take (length l - 1) l) + 1 ≡ at + length l = omega (arith, length-take-le (length l - 1) l (omega arith)) in
-      rw ((line_found h).0, r.2) (ap (Line (record_of (take (length l - 1) l))) n)
+      rw ((line_found h).0, r.2) (ap (λ (k : ℕ). Some (saying (record_of (take (length l - 1) l)) k)) n)
 
-  pub record_none : length l ≡ 0 → record_at s at ≡ Unended
+  pub record_none : length l ≡ 0 → record_at s at ≡ None
   record_none h = rw (line_none h)
+
+-- what is said where a line was found
+abbrev record_in : Option Line → Record
+record_in (Some l) = l.says
+record_in None = Unreadable
 
 -- the line at `at` says r, and the next one starts at next
 pub record LineAt (s : List ℕ) (at : ℕ) (r : Record) (next : ℕ) : Type 0 where
@@ -68,7 +74,7 @@ module _ (s : List ℕ) (at : ℕ) where
   abbrev the_line : List ℕ
   the_line = line_at s at
 
-  pub line_at_lem : (r : Record) (next : ℕ) → record_at s at ≡ Line r next → LineAt s at r next
+  pub line_at_lem : (r : Record) (next : ℕ) → record_at s at ≡ Some (saying r next) → LineAt s at r next
   line_at_lem r next e = go (ltb 0 (length the_line)) refl
     where
       go : (t : Bool) → ltb 0 (length the_line) ≡ t → LineAt s at r next
@@ -76,10 +82,10 @@ module _ (s : List ℕ) (at : ℕ) where
           let h : 1 ≤ length the_line = ltb-true _ _ p in
           let f = line_found s at the_line refl h in
           let q = record_found s at the_line refl h in
-          let n : next ≡ at + length the_line = cc in
+          let n : next ≡ at + length the_line = ap (next_of 0) (sym e ∙ q) in
           record {
             line = take (length the_line - 1) the_line;
-            says = cc;
+            says = ap record_in (sym e ∙ q);
             parts = rw n f.0;
             on = omega arith;
             within = omega (arith, f.1);
@@ -89,7 +95,7 @@ module _ (s : List ℕ) (at : ℕ) where
           let z : ◌≡◌ {A = ℕ} 0 1 = cc in
           absurd (omega arith)
 
-  pub line_end : record_at s at ≡ Unended → split 10 (drop at s) ≡ drop at s ∷ []
+  pub line_end : record_at s at ≡ None → split 10 (drop at s) ≡ drop at s ∷ []
   line_end e = go (ltb 0 (length the_line)) refl
     where
       go : (t : Bool) → ltb 0 (length the_line) ≡ t → split 10 (drop at s) ≡ drop at s ∷ []

@@ -7,10 +7,9 @@ use Rattle.std.proofs.Common.{◌≡◌, ℕ, zero, suc, ◌+◌, ◌-◌, ◌*�
 use borrow.Author.Tests.{eqb-false}
 use lib.Bits.{bit_and, bit_xor, and_comm, and_le_l, and_le_r, and_shifted, and_mod, and_shr, xor_mod, xor_shr, xor_self, xor_add_and}
 use lib.Count.{count_trailing_zeros, trailing_of_zero}
-use Rattle.finite.proofs.Bits.{lowest_below}
 use Rattle.text.specs.Text.{before, bytes}
 use Rattle.text.specs.Records.{is}
-use Rattle.text.proofs.Laws.{before_among, before_behind}
+use Rattle.text.proofs.Laws.{before_behind}
 
 -- the byte c on n places
 abbrev spread : ℕ → ℕ → ℕ
@@ -158,9 +157,6 @@ word_marked w b y h e =
 module _ (b w m : ℕ) (l : List ℕ) (r : Marked 8 b w m) (e : bytes 8 w ≡ take 8 l) where
   first_eight : count_trailing_zeros 64 m / 8 ≡ before (is b) (take 8 l)
   first_eight = r ∙ ap (before (is b)) e
-
-  pub mark_found : 0 < m → m < 2 ^ 64 → count_trailing_zeros 64 m / 8 ≡ before (is b) l
-  mark_found some below = first_eight ∙ sym (before_among (is b) 8 l (omega (arith, first_eight, lowest_below 64 m some below 64 below)))
 
   pub mark_none : m ≡ 0 → before (is b) l ≡ 8 + before (is b) (drop 8 l)
   mark_none z =

@@ -3,15 +3,10 @@
 use Rattle.std.proofs.Common.{◌≡◌, ℕ, zero, suc, ◌+◌, ◌-◌, ◌*◌, ◌^◌, ◌<◌, ◌≤◌, true, false, not, ◌&&◌, eqb, leb, List, [], ◌∷◌, length, get_or, take, drop, refl, ◌∙◌, le_of_suc-le-suc, pow-suc, add-one, arith, drop_of_length-le, drop-cons, le-ltb, lt-ltb, le-leb, leb-true}
 use mathlib.Core.Bool.{and-eq-true_iff}
 use native.Mathlib.Nat.{pow-le-pow_right}
-use borrow.Author.Tests.{lt-leb}
+use Rattle.std.proofs.Common.{Bool, ap}
+use Rattle.std.specs.List.{list_all}
 use Rattle.text.specs.Numbers.{is_digit, all_digits, no_leading_zero, well_formed, decimal_after, number_of}
 use Rattle.text.specs.declared.Number.TheVariants.{Value, TooLarge, Malformed}
-
-pub digit_below : (x : ℕ) → x < 48 → is_digit x ≡ false
-digit_below x h = simp (lt-leb 48 x h)
-
-pub digit_above : (x : ℕ) → 57 < x → is_digit x ≡ false
-digit_above x h = simp (le-leb 48 x (omega arith), lt-leb x 57 h)
 
 pub digit_in : (x : ℕ) → 48 ≤ x → x ≤ 57 → is_digit x ≡ true
 digit_in x h k = simp (le-leb 48 x h, le-leb x 57 k)
@@ -50,16 +45,11 @@ digits_take (suc k) (c ∷ f) e =
     let a = (and-eq-true_iff (is_digit c) (all_digits f)).0 e in
     rw a.0 (digits_take k f a.1)
 
+pub all_list : (f : List ℕ) → list_all is_digit f ≡ all_digits f
+all_list [] = refl
+all_list (c ∷ f) = ap (λ (t : Bool). is_digit c && t) (all_list f)
+
 module _ (f : List ℕ) (i : ℕ) where
-  pub digits_step : i < length f → is_digit (get_or f i 0) ≡ true → all_digits (drop i f) ≡ all_digits (drop (i + 1) f)
-  digits_step h e = rw (add-one, drop-cons f i 0, e)
-
-  pub digits_stop : i < length f → is_digit (get_or f i 0) ≡ false → all_digits (drop i f) ≡ false
-  digits_stop h e = rw (drop-cons f i 0, e)
-
-  pub digits_end : length f ≤ i → all_digits (drop i f) ≡ true
-  digits_end h = rw drop_of_length-le
-
   pub decimal_step : (a : ℕ) → i < length f → decimal_after a (drop i f) ≡ decimal_after (a * 10 + (get_or f i 0 - 48)) (drop (i + 1) f)
   decimal_step a h = rw (add-one, drop-cons f i 0)
 

@@ -1,18 +1,14 @@
 -- Laws of `split`: the first piece, and the rest after the byte that parts them.
 use Rattle.std.proofs.Common.{◌≡◌, ℕ, suc, ◌+◌, ◌-◌, ◌<◌, ◌≤◌, Bool, true, false, eqb, List, [], ◌∷◌, ◌++◌, length, take, drop, refl, ap, le_of_eq, le_of_suc-le-suc, not-suc-le-zero, add-one, arith, length-drop, length-take-le, take_all, eqb-true}
 use Rattle.text.specs.Text.{before}
+use Rattle.text.proofs.Laws.{before_most}
 use Rattle.text.specs.Records.{is, first_field, split, one_of, end_of}
 use Rattle.text.specs.declared.Record.TheVariants.{Unreadable}
 use Rattle.text.specs.declared.Number.TheVariants.{Malformed}
 
 module _ (b : ℕ) where
   pub before_le : (l : List ℕ) → before (is b) l ≤ length l
-  before_le [] = omega arith
-  before_le (c ∷ l) = go (eqb c b) refl (before_le l)
-    where
-      go : (t : Bool) → eqb c b ≡ t → before (is b) l ≤ length l → before (is b) (c ∷ l) ≤ length (c ∷ l)
-      go true e h = rw e (omega arith)
-      go false e h = rw e (omega arith)
+  before_le l = before_most (is b) l
 
   -- no b: one piece
   pub split_last : (l : List ℕ) → length l ≤ before (is b) l → split b l ≡ l ∷ []

@@ -1,6 +1,6 @@
 -- A line as fields, and the record that the fields say (paper 01, "The plan text"). The byte 9 is a
 -- tab, 10 a line feed.
-use Rattle.std.specs.Prelude.{ℕ, ◌+◌, Bool, true, false, cond, ◌&&◌, List, [], ◌∷◌, ◌++◌, length, take, drop, ◌==◌}
+use Rattle.std.specs.Prelude.{ℕ, ◌+◌, Bool, true, false, cond, ◌&&◌, List, [], ◌∷◌, ◌++◌, length, take, drop, ◌==◌, Option, Some, None}
 use Rattle.text.specs.Text.{before}
 use Rattle.text.specs.Numbers.{number_of}
 use Rattle.text.specs.Words.{keyword_of}
@@ -8,14 +8,9 @@ use Rattle.text.specs.declared.Number.{Number}
 use Rattle.text.specs.declared.Number.TheVariants.{Value, TooLarge, Malformed}
 use Rattle.text.specs.declared.Keyword.{Keyword}
 use Rattle.text.specs.declared.Mode.{Mode}
-use Rattle.text.specs.declared.Two.{Two}
-use Rattle.text.specs.declared.Two.TheVariants.{Pair, NoPair}
-use Rattle.text.specs.declared.Three.{Three}
-use Rattle.text.specs.declared.Three.TheVariants.{Triple, NoTriple}
 use Rattle.text.specs.declared.Record.{Record}
 use Rattle.text.specs.declared.Record.TheVariants.{Loop, Start, Begin, Access, End, Unreadable}
-use Rattle.text.specs.declared.RecordAt.{RecordAt}
-use Rattle.text.specs.declared.RecordAt.TheVariants.{Line, Unended}
+use Rattle.text.specs.declared.Line.{Line}
 
 -- c is the byte b
 abbrev pub is : ℕ → ℕ → Bool
@@ -42,13 +37,13 @@ sound TooLarge = true
 sound Malformed = false
 
 -- two numbers, each in form
-abbrev pub pair : Number → Number → Two
-pair x y = cond (sound x && sound y) (Pair x y) NoPair
+abbrev pub pair : Number → Number → Option (Number × Number)
+pair x y = cond (sound x && sound y) (Some (x, y)) None
 
 -- a number in form before two such
-abbrev pub triple : Number → Two → Three
-triple x NoPair = NoTriple
-triple x (Pair y z) = cond (sound x) (Triple x y z) NoTriple
+abbrev pub triple : Number → Option (Number × Number) → Option (Number × Number × Number)
+triple x None = None
+triple x (Some (y, z)) = cond (sound x) (Some (x, y, z)) None
 
 -- the number of exactly one field
 abbrev pub one_of : List (List ℕ) → Number
@@ -57,29 +52,29 @@ one_of (a ∷ []) = number_of a
 one_of (a ∷ b ∷ fs) = Malformed
 
 -- the numbers of exactly two fields
-abbrev pub two_of : List (List ℕ) → Two
-two_of [] = NoPair
+abbrev pub two_of : List (List ℕ) → Option (Number × Number)
+two_of [] = None
 two_of (a ∷ fs) = pair (number_of a) (one_of fs)
 
 -- the numbers of exactly three fields
-abbrev pub three_of : List (List ℕ) → Three
-three_of [] = NoTriple
+abbrev pub three_of : List (List ℕ) → Option (Number × Number × Number)
+three_of [] = None
 three_of (a ∷ fs) = triple (number_of a) (two_of fs)
 
 -- `loop`: passes, ranks, regions
-abbrev pub loop_of : Three → Record
-loop_of (Triple a b c) = Loop a b c
-loop_of NoTriple = Unreadable
+abbrev pub loop_of : Option (Number × Number × Number) → Record
+loop_of (Some (a, b, c)) = Loop a b c
+loop_of None = Unreadable
 
 -- `begin`: rank, kernel, constant
-abbrev pub begin_of : Three → Record
-begin_of (Triple a b c) = Begin a b c
-begin_of NoTriple = Unreadable
+abbrev pub begin_of : Option (Number × Number × Number) → Record
+begin_of (Some (a, b, c)) = Begin a b c
+begin_of None = Unreadable
 
 -- `start`: region, value
-abbrev pub start_of : Two → Record
-start_of (Pair a b) = Start a b
-start_of NoPair = Unreadable
+abbrev pub start_of : Option (Number × Number) → Record
+start_of (Some (a, b)) = Start a b
+start_of None = Unreadable
 
 -- `in`, `out`, `inout`: region
 abbrev pub access_of : Mode → Number → Record
@@ -122,20 +117,24 @@ ended (l ∷ m ∷ ls) = l ++ (10 ∷ [])
 abbrev pub line_at : List ℕ → ℕ → List ℕ
 line_at s at = ended (split 10 (drop at s))
 
+-- a line that says r, where the next one starts at next
+abbrev pub saying : Record → ℕ → Line
+saying r next = record { says = r; next = next }
+
 -- the first of the lines, which a line feed ends: what follows the last line feed is no line
-abbrev pub first_line : ℕ → List (List ℕ) → RecordAt
-first_line at [] = Unended
-first_line at (l ∷ []) = Unended
-first_line at (l ∷ m ∷ ls) = Line (record_of l) (at + length l + 1)
+abbrev pub first_line : ℕ → List (List ℕ) → Option Line
+first_line at [] = None
+first_line at (l ∷ []) = None
+first_line at (l ∷ m ∷ ls) = Some (saying (record_of l) (at + length l + 1))
 
 -- what the line at `at` says, and where the next one starts; beyond the end there is none
-abbrev pub record_at : List ℕ → ℕ → RecordAt
+abbrev pub record_at : List ℕ → ℕ → Option Line
 record_at s at = first_line at (split 10 (drop at s))
 
 -- where the line behind what was found at `at` starts: at itself where no line feed follows
-abbrev pub next_of : ℕ → RecordAt → ℕ
-next_of at (Line r next) = next
-next_of at Unended = at
+abbrev pub next_of : ℕ → Option Line → ℕ
+next_of at (Some l) = l.next
+next_of at None = at
 
 -- where the line behind the one at `at` starts
 abbrev pub next_at : List ℕ → ℕ → ℕ

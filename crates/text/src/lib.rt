@@ -24,7 +24,7 @@ fn word_of(a: u8, b: u8, c: u8, d: u8, e: u8, f: u8, g: u8, h: u8) -> u64
         + h as u64 * 0x100_0000_0000_0000
 }
 
-// The eight bytes from i on as one word. The language has no such load; LLVM makes one of this.
+// The eight bytes from i on as one word: LLVM makes one load of it.
 fn word_at(s: &[u8], i: usize) -> u64
     requires { i + 8 ≤ length s.now }
     ensures { bytes 8 result ≡ take 8 (drop i s.now) }
@@ -56,19 +56,18 @@ fn marks(w: u64, b: u8) -> u64
     std::num::wrapping_sub_u64(x, ONES) & !x & TOP_BITS
 }
 
-// Where the first b stands from `at` on, byte by byte: the end where there is none, and `at` itself
-// beyond the end.
+// Where the first b stands from `at` on, byte by byte: the end where there is none.
 fn find_from(s: &[u8], at: usize, b: u8) -> usize
+    requires { at ≤ length s.now }
     ensures { result ≡ at + before (is b) (drop at s.now) }
 {
-    let mut i = at;
-    while i < s.len() {
+    // an index: tried `position` on `&s[at..]`: 43.7 instructions a byte of short lines, limit 42
+    for i in at..s.len() {
         if s[i] == b {
             return i;
         }
-        i += 1;
     }
-    i
+    s.len()
 }
 
 // How many bytes stand before the first b, or all of them: the one search for a tab or a line feed.
@@ -77,6 +76,7 @@ fn find(s: &[u8], b: u8) -> usize
     ensures { result ≡ before (is b) s.now }
 {
     let mut i = 0;
+    // an index: a chain has no words of eight bytes
     while i + 8 <= s.len() {
         let m = marks(word_at(s, i), b);
         if m != 0 {
@@ -91,7 +91,7 @@ fn find(s: &[u8], b: u8) -> usize
 fn first_field(t: &[u8]) -> &[u8]
     ensures { result.now ≡ first_field t.now }
 {
-    let n = find(t, 9);
+    let n = find(t, b'\t');
     &t[..n]
 }
 
@@ -106,7 +106,8 @@ fn behind(t: &[u8], n: usize) -> &[u8]
 }
 
 // What a field says as a number: TooLarge is in form, and above the largest word.
-#[derive(Clone, Copy)]
+// No Option: a line with a number too large is in form, and refused by another number.
+#[derive(Clone, Copy, PartialEq, Eq, Debug)]
 pub enum Number {
     Value(u64),
     TooLarge,
@@ -117,17 +118,7 @@ pub enum Number {
 fn all_digits(f: &[u8]) -> bool
     ensures { result ≡ all_digits f.now }
 {
-    let mut i = 0;
-    while i < f.len() {
-        if f[i] < 48 {
-            return false;
-        }
-        if 57 < f[i] {
-            return false;
-        }
-        i += 1;
-    }
-    true
+    f.iter().all(|&c| (b'0' <= c) & (c <= b'9'))
 }
 
 // Whether the first of several bytes is no 0.
@@ -137,7 +128,7 @@ fn no_leading_zero(f: &[u8]) -> bool
     if f.len() < 2 {
         return true;
     }
-    f[0] != 48
+    f[0] != b'0'
 }
 
 // Whether a field is 1 to 20 digits, with no leading zero except 0 itself.
@@ -148,23 +139,14 @@ fn well_formed(f: &[u8]) -> bool
     (1 <= n) & ((n <= 20) & (no_leading_zero(f) & all_digits(f)))
 }
 
-// A byte as a word.
-pub fn wide(x: u8) -> u64
-    ensures { result ≡ x }
-{
-    x as u64
-}
-
 // The number that at most 19 digits write: a word holds any such number, so no digit needs a test.
 fn decimal(f: &[u8]) -> u64
     requires { (length f.now ≤ 19) × (all_digits f.now ≡ true) }
     ensures { result ≡ decimal_after 0 f.now }
 {
     let mut value: u64 = 0;
-    let mut i = 0;
-    while i < f.len() {
-        value = value * 10 + wide(f[i] - 48);
-        i += 1;
+    for &c in f {
+        value = value * 10 + u64::from(c - b'0');
     }
     value
 }
@@ -180,15 +162,15 @@ pub fn number_of(f: &[u8]) -> Number
         return Number::Value(decimal(f));
     }
     let most = decimal(&f[..19]);
-    let last = wide(f[19] - 48);
-    if (18446744073709551615 - last) / 10 < most {
+    let last = u64::from(f[19] - b'0');
+    if (u64::MAX - last) / 10 < most {
         return Number::TooLarge;
     }
     Number::Value(most * 10 + last)
 }
 
-// The word that begins a line.
-#[derive(Clone, Copy)]
+// The word that begins a line. No Option: `specs/Words.antt` names the unknown word.
+#[derive(Clone, Copy, PartialEq, Eq, Debug)]
 pub enum Keyword {
     Loop,
     Start,
@@ -201,21 +183,17 @@ pub enum Keyword {
 }
 
 // Whether two parts hold the same bytes.
+// Tried `==`, which is a call: 30.3 instructions a byte of the largest text, limit 28.5.
 pub fn same(a: &[u8], b: &[u8]) -> bool
     ensures { result ≡ alike a.now b.now }
 {
-    if a.len() < b.len() {
+    if a.len() != b.len() {
         return false;
     }
-    if b.len() < a.len() {
-        return false;
-    }
-    let mut i = 0;
-    while i < a.len() {
+    for i in 0..a.len() {
         if a[i] != b[i] {
             return false;
         }
-        i += 1;
     }
     true
 }
@@ -248,29 +226,11 @@ pub fn keyword_of(f: &[u8]) -> Keyword
     Keyword::Unknown
 }
 
-// The numbers of two fields and of three, each in form; or not so many fields, or one of them not
-// in form.
-#[derive(Clone, Copy)]
-pub enum Two {
-    Pair(Number, Number),
-    NoPair,
-}
-
-#[derive(Clone, Copy)]
-pub enum Three {
-    Triple(Number, Number, Number),
-    NoTriple,
-}
-
 // Whether a number is in form.
 fn is_sound(x: Number) -> bool
     ensures { result ≡ sound x }
 {
-    match x {
-        Number::Value(_) => true,
-        Number::TooLarge => true,
-        Number::Malformed => false,
-    }
+    !matches!(x, Number::Malformed)
 }
 
 // The number of exactly one field.
@@ -284,49 +244,40 @@ fn one_number(t: &[u8]) -> Number
     number_of(field)
 }
 
-// The numbers of exactly two fields.
-fn two_numbers(t: &[u8]) -> Two
+// The numbers of exactly two fields, each in form.
+fn two_numbers(t: &[u8]) -> Option<(Number, Number)>
     ensures { result ≡ two_of (split 9 t.now) }
 {
     let field = first_field(t);
     let n = field.len();
     if t.len() <= n {
-        return Two::NoPair;
+        return None;
     }
     let x = number_of(field);
     let y = one_number(behind(t, n + 1));
     if is_sound(x) & is_sound(y) {
-        Two::Pair(x, y)
+        Some((x, y))
     } else {
-        Two::NoPair
+        None
     }
 }
 
-// The numbers of exactly three fields.
-fn three_numbers(t: &[u8]) -> Three
+// The numbers of exactly three fields, each in form.
+fn three_numbers(t: &[u8]) -> Option<(Number, Number, Number)>
     ensures { result ≡ three_of (split 9 t.now) }
 {
     let field = first_field(t);
     let n = field.len();
     if t.len() <= n {
-        return Three::NoTriple;
+        return None;
     }
     let x = number_of(field);
-    let rest = two_numbers(behind(t, n + 1));
-    match rest {
-        Two::Pair(y, z) => {
-            if is_sound(x) {
-                Three::Triple(x, y, z)
-            } else {
-                Three::NoTriple
-            }
-        }
-        Two::NoPair => Three::NoTriple,
-    }
+    let (y, z) = two_numbers(behind(t, n + 1))?;
+    if is_sound(x) { Some((x, y, z)) } else { None }
 }
 
 // How a task names a region.
-#[derive(Clone, Copy)]
+#[derive(Clone, Copy, PartialEq, Eq, Debug)]
 pub enum Mode {
     In,
     Out,
@@ -334,7 +285,8 @@ pub enum Mode {
 }
 
 // What a line says. Every number that it holds is in form.
-#[derive(Clone, Copy)]
+// No Option: the specs of `reading` name the unreadable line.
+#[derive(Clone, Copy, PartialEq, Eq, Debug)]
 pub enum Record {
     Loop {
         passes: Number,
@@ -358,52 +310,48 @@ pub enum Record {
     Unreadable,
 }
 
-// What stands at an offset: a line, with the offset behind its line feed, or bytes that no line
-// feed ends.
+// A line that stands at an offset: what it says, and the offset behind its line feed.
 #[derive(Clone, Copy)]
-pub enum RecordAt {
-    Line { record: Record, next: usize },
-    Unended,
+pub struct Line {
+    pub says: Record,
+    pub next: usize,
 }
 
 // A `loop` line of these fields.
-fn loop_of(x: Three) -> Record
+fn loop_of(x: Option<(Number, Number, Number)>) -> Record
     ensures { result ≡ loop_of x }
 {
     match x {
-        Three::Triple(a, b, c) => Record::Loop {
-            passes: a,
-            ranks: b,
-            regions: c,
+        Some((passes, ranks, regions)) => Record::Loop {
+            passes,
+            ranks,
+            regions,
         },
-        Three::NoTriple => Record::Unreadable,
+        None => Record::Unreadable,
     }
 }
 
 // A `begin` line of these fields.
-fn begin_of(x: Three) -> Record
+fn begin_of(x: Option<(Number, Number, Number)>) -> Record
     ensures { result ≡ begin_of x }
 {
     match x {
-        Three::Triple(a, b, c) => Record::Begin {
-            rank: a,
-            kernel: b,
-            constant: c,
+        Some((rank, kernel, constant)) => Record::Begin {
+            rank,
+            kernel,
+            constant,
         },
-        Three::NoTriple => Record::Unreadable,
+        None => Record::Unreadable,
     }
 }
 
 // A `start` line of these fields.
-fn start_of(x: Two) -> Record
+fn start_of(x: Option<(Number, Number)>) -> Record
     ensures { result ≡ start_of x }
 {
     match x {
-        Two::Pair(a, b) => Record::Start {
-            region: a,
-            value: b,
-        },
-        Two::NoPair => Record::Unreadable,
+        Some((region, value)) => Record::Start { region, value },
+        None => Record::Unreadable,
     }
 }
 
@@ -424,13 +372,7 @@ fn without_fields(word: Keyword) -> Record
 {
     match word {
         Keyword::End => Record::End,
-        Keyword::Loop => Record::Unreadable,
-        Keyword::Start => Record::Unreadable,
-        Keyword::Begin => Record::Unreadable,
-        Keyword::In => Record::Unreadable,
-        Keyword::Out => Record::Unreadable,
-        Keyword::Inout => Record::Unreadable,
-        Keyword::Unknown => Record::Unreadable,
+        _ => Record::Unreadable,
     }
 }
 
@@ -469,36 +411,36 @@ pub fn line_from(s: &[u8], at: usize) -> &[u8]
     ensures { result.now ≡ line_at s.now at }
 {
     let t = behind(s, at);
-    let n = find(t, 10);
+    let n = find(t, b'\n');
     if t.len() <= n {
         return &t[..0];
     }
     &t[..n + 1]
 }
 
-// What the line that starts at `at` says, and where the next one starts. Unended where no line feed
+// What the line that starts at `at` says, and where the next one starts. None where no line feed
 // follows, and beyond the end.
-fn line_at(s: &[u8], at: usize) -> RecordAt
+fn line_at(s: &[u8], at: usize) -> Option<Line>
     ensures { result ≡ record_at s.now at }
 {
     let line = line_from(s, at);
     let n = line.len();
     if n == 0 {
-        return RecordAt::Unended;
+        return None;
     }
-    RecordAt::Line {
-        record: record_of(&line[..n - 1]),
+    Some(Line {
+        says: record_of(&line[..n - 1]),
         next: at + n,
-    }
+    })
 }
 
 // Where the line behind what was found at `at` starts: `at` itself where no line feed follows.
-fn next_at(found: RecordAt, at: usize) -> usize
+fn next_at(found: Option<Line>, at: usize) -> usize
     ensures { result ≡ next_of at found }
 {
     match found {
-        RecordAt::Line { record: _, next } => next,
-        RecordAt::Unended => at,
+        Some(line) => line.next,
+        None => at,
     }
 }
 
@@ -526,7 +468,8 @@ impl<'a> LineReader<'a> {
     }
 
     // What the next line says. The reader goes on behind it, and stays where no line feed follows.
-    pub fn next(&mut self) -> RecordAt
+    // No `Iterator`: a loop over one could not tell an unended line from the end of the text.
+    pub fn next(&mut self) -> Option<Line>
         ensures { (result ≡ record_at self.old.text.now self.old.at) × (self.new.text ≡ self.old.text)
             × (self.new.at ≡ next_at self.old.text.now self.old.at) }
     {

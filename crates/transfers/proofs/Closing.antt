@@ -15,21 +15,20 @@ use lib.ListN.{length, get_or, set}
 use lib.Seq.{set-get_or}
 use Rattle.finite.specs.Below.{count_below}
 use Rattle.finite.proofs.Tests.{and_parts, false_of, ltb_next}
-use Rattle.finite.proofs.Below.{count_le, count_ext, sum_const}
+use Rattle.finite.proofs.Below.{count_ext, sum_const}
 use Rattle.finite.proofs.Sums.{count_or_apart}
 use Rattle.finite.proofs.Bits.{bits_ext}
 use Rattle.finite.proofs.Bitwise.{bits_or, ones_bits}
-use Rattle.finite.proofs.Lists.{length_tabulate}
 use Rattle.body.specs.Transfers.{last_before}
 use Rattle.plan.specs.Limits.{max_regions}
 use Rattle.plan.specs.Layout.{regions_of, tasks_of, rank_of, accesses_of, region_at, body_of}
 use Rattle.plan.specs.Form.{words_ok}
 use Rattle.plan.proofs.Facts.{Formed, formed}
 use Rattle.transfers.specs.Wanted.{plan_masks, mask_of, mask_by, wrapped_at, ahead_at, ahead_masks, has_rank}
-use Rattle.transfers.specs.Search.{no_writers, noted_tasks, Sources, late_of, forward_mask, late, serves, closed_masks, closed_wrapped, closed_total, forward_at, late_at, closed_at, Closed, per_flag, access_flags}
+use Rattle.transfers.specs.Search.{no_writers, noted_tasks, late_of, forward_mask, late, serves, closed_masks, closed_wrapped, closed_total, forward_at, late_at, closed_at, Closed, per_flag, access_flags}
 use Rattle.transfers.proofs.Foreign.{wrapped_not, wrapped_foreign, wrapped_last, late_is}
 use Rattle.transfers.proofs.Flags.{source_bit}
-use Rattle.transfers.proofs.Last.{Writer, Names, last_at, last_named, sources_none, sources_after}
+use Rattle.transfers.proofs.Last.{Writer, Names, last_at, last_named}
 use Rattle.transfers.proofs.Masks.{mask_has, masks_size, mask_at, ahead_at_lem, masks_ext, masks_put}
 use Rattle.transfers.proofs.Tally.{count_more_at}
 
@@ -193,7 +192,7 @@ module _ (w : List ℕ) (F : Formed w) (g : ℕ) where
                 closed_total_lem s h m at c
                 ∙ (ap (λ (x : ℕ). x + ones (late s h m)) C.count
                 ∙ sym (count_more_at (closed_at w g) (closed_at w (g + 1)) i a (ones (late s h m)) tasks few served_count
-                (λ j b q l n. ap (λ (x : Bool). forward_at w j b q || x) (others j b q n))));
+                (λ j b q _ l n. ap (λ (x : Bool). forward_at w j b q || x) (others j b q n))));
           }
 
     closed_region : g < regions_of w → s ≡ get_or (last_at w (tasks_of w)) g 0 → Closed w (g + 1) (closed_masks s h m) (closed_wrapped s h m v) (closed_total s h m c)
@@ -255,42 +254,21 @@ module _ (s y : ℕ) (m : List ℕ) (n : ℕ) (e : n ≡ s / 65536) where
 -- what a region that is closed asks for
 
 module _ (w : List ℕ) (g : ℕ) (m v : List ℕ) (c : ℕ) (C : Closed w g m v c) where
-  pub closed_long : length m ≡ plan_masks
-  closed_long = ap length C.masks_are ∙ masks_size (closed_at w g)
-
   pub closed_size : length v ≡ plan_masks
   closed_size = ap length C.wrapped_are ∙ masks_size (late_at w g)
 
-  pub closed_most : c ≤ access_flags
-  closed_most = omega (arith, C.count, count_le (per_flag (closed_at w g)) access_flags)
+pub regions_few : (w : List ℕ) (n : ℕ) → words_ok w ≡ true → n ≡ regions_of w → n ≤ max_regions
+regions_few w n h e = omega (arith, (formed w h).regions_most)
 
-pub ahead_long : (w ahead : List ℕ) → ahead ≡ ahead_masks w → length ahead ≡ max_regions
-ahead_long w ahead e = ap length e ∙ length_tabulate (λ g. mask_of (ahead_at w g)) max_regions
-
-pub same_long : (w : List ℕ) (g h : ℕ) (m v m' v' : List ℕ) (c c' : ℕ) → Closed w g m v c → Closed w h m' v' c' → length m ≡ length m'
-same_long w g h m v m' v' c c' C D = closed_long w g m v c C ∙ sym (closed_long w h m' v' c' D)
-
-pub same_size : (w : List ℕ) (g h : ℕ) (m v m' v' : List ℕ) (c c' : ℕ) → Closed w g m v c → Closed w h m' v' c' → length v ≡ length v'
-same_size w g h m v m' v' c c' C D = closed_size w g m v c C ∙ sym (closed_size w h m' v' c' D)
-
-pub sources_last : (w last : List ℕ) → words_ok w ≡ true → last ≡ noted_tasks w (tasks_of w) (no_writers (regions_of w)) → Sources last
-sources_last w last h e = rw e (sources_after w (formed w h) (tasks_of w) (no_writers (regions_of w)) (omega arith) (sources_none (regions_of w)))
-
-pub regions_few : (w : List ℕ) (n x : ℕ) → words_ok w ≡ true → x ≡ regions_of w → n ≡ x → n ≤ max_regions
-regions_few w n x h e f = omega (arith, (formed w h).regions_most)
-
-pub region_few : (w : List ℕ) (n x g : ℕ) → words_ok w ≡ true → x ≡ regions_of w → n ≡ x → g < n → g < max_regions
-region_few w n x g h e f l = omega (arith, (formed w h).regions_most)
+pub region_few : (w : List ℕ) (n g : ℕ) → words_ok w ≡ true → n ≡ regions_of w → g < n → g < max_regions
+region_few w n g h e l = omega (arith, (formed w h).regions_most)
 
 -- the loop
 
-pub closed_more : (w last ahead : List ℕ) (n x g : ℕ) (m v : List ℕ) (c : ℕ) (m' v' : List ℕ) (c' : ℕ) → words_ok w ≡ true
-    → last ≡ noted_tasks w (tasks_of w) (no_writers (regions_of w)) → ahead ≡ ahead_masks w → x ≡ regions_of w → n ≡ x → g < n → Closed w g m v c
+pub closed_more : (w last ahead : List ℕ) (n g : ℕ) (m v : List ℕ) (c : ℕ) (m' v' : List ℕ) (c' : ℕ) → words_ok w ≡ true
+    → last ≡ noted_tasks w (tasks_of w) (no_writers (regions_of w)) → ahead ≡ ahead_masks w → n ≡ regions_of w → g < n → Closed w g m v c
     → m' ≡ closed_masks (get_or last g 0) (get_or ahead g 0) m → v' ≡ closed_wrapped (get_or last g 0) (get_or ahead g 0) m v
     → c' ≡ closed_total (get_or last g 0) (get_or ahead g 0) m c → Closed w (g + 1) m' v' c'
-closed_more w last ahead n x g m v c m' v' c' h e d f y l C i j k =
+closed_more w last ahead n g m v c m' v' c' h e d f l C i j k =
     rw (i, j, k)
     (closed_region w (formed w h) g m v c C (get_or last g 0) (get_or ahead g 0) (ap (λ (xs : List ℕ). get_or xs g 0) d) (omega arith) (ap (λ (xs : List ℕ). get_or xs g 0) e))
-
-pub closed_done : (w : List ℕ) (n x g : ℕ) (m v : List ℕ) (c : ℕ) → Closed w g m v c → n ≤ g → g ≤ n → x ≡ regions_of w → n ≡ x → Closed w (regions_of w) m v c
-closed_done w n x g m v c C p q e f = let z : regions_of w ≡ g = omega arith in rw z C

@@ -51,7 +51,7 @@ flags_size : (m : List ℕ) → length (flags_of m) ≡ plan_flags
 unfolding flags_of
 flags_size m = length_tabulate (λ k. get_or m (k / 16) 0 / 2 ^ (k % 16) % 2) plan_flags
 
-flags_at : (m : List ℕ) (k : ℕ) → k < plan_flags → get_or (flags_of m) k 0 ≡ get_or m (k / 16) 0 / 2 ^ (k % 16) % 2
+pub flags_at : (m : List ℕ) (k : ℕ) → k < plan_flags → get_or (flags_of m) k 0 ≡ get_or m (k / 16) 0 / 2 ^ (k % 16) % 2
 unfolding flags_of
 flags_at m k l = get_d_tabulate (λ k. get_or m (k / 16) 0 / 2 ^ (k % 16) % 2) plan_flags k 0 l
 
@@ -131,25 +131,22 @@ tallied_none m h e f =
       count = sym (ap flag_count (flags_unset m h e f) ∙ count_zeros);
     }
 
+pub zeros_fit : (m : List ℕ) → m ≡ replicate plan_masks 0 → (k : ℕ) → k < plan_masks → get_or m k 0 < 65536
+zeros_fit m e k l = omega (arith, ap (λ (x : List ℕ). get_or x k 0) e, get_or-replicate {A = ℕ} plan_masks k 0 0 l)
+
 pub raise_fits : (q x b : ℕ) → q < 16 → x < 65536 → x / 2 ^ q % 2 ≡ 0 → b ≡ 2 ^ q → x + b < 65536
 raise_fits q x b l below unset e = rw e (bit_more_below 16 x q below l unset)
 
--- the mask at k, by its bit before
-pub raised_new : (m : List ℕ) (k q x b v : ℕ) → x ≡ get_or m k 0 → x < 65536 → x / 2 ^ q % 2 ≡ 0 → b ≡ 2 ^ q → v ≡ x + b → Raised m k q (set m k v)
-raised_new m k q x b v e below unset f g =
-    let u : get_or m k 0 / 2 ^ q % 2 ≡ 0 = ap (λ (y : ℕ). y / 2 ^ q % 2) (sym e) ∙ unset in
-    record { below = omega (arith, e); raised = rw u (rw (g, f, e)) }
-
-pub raised_kept : (m : List ℕ) (k q x : ℕ) → x ≡ get_or m k 0 → x < 65536 → (x / 2 ^ q % 2 ≡ 0 → ⊥) → Raised m k q m
-raised_kept m k q x e below n =
-    let u : get_or m k 0 / 2 ^ q % 2 ≡ 1 = ap (λ (y : ℕ). y / 2 ^ q % 2) (sym e) ∙ omega arith in
-    record { below = omega (arith, e); raised = rw u }
-
-pub bit_new : (m : List ℕ) (k q x : ℕ) → x ≡ get_or m k 0 → x / 2 ^ q % 2 ≡ 0 → ◌≡◌ {A = ℕ} 1 (cond (has_rank (get_or m k 0) q) 0 1)
-bit_new m k q x e unset = let u : get_or m k 0 / 2 ^ q % 2 ≡ 0 = ap (λ (y : ℕ). y / 2 ^ q % 2) (sym e) ∙ unset in rw u
-
-pub bit_kept : (m : List ℕ) (k q x : ℕ) → x ≡ get_or m k 0 → (x / 2 ^ q % 2 ≡ 0 → ⊥) → ◌≡◌ {A = ℕ} 0 (cond (has_rank (get_or m k 0) q) 0 1)
-bit_kept m k q x e n = let u : get_or m k 0 / 2 ^ q % 2 ≡ 1 = ap (λ (y : ℕ). y / 2 ^ q % 2) (sym e) ∙ omega arith in rw u
+pub raised_fit : (m : List ℕ) (k q : ℕ) → q < 16 → k < length m → (m' : List ℕ) → Raised m k q m' → (g : ℕ) → get_or m g 0 < 65536 → get_or m' g 0 < 65536
+raised_fit m k q r l m' R g f = rw R.raised (fit (get_or m k 0 / 2 ^ q % 2) refl)
+  where
+    fit : (b : ℕ) → get_or m k 0 / 2 ^ q % 2 ≡ b → get_or (cond (eqb b 1) m (set m k (get_or m k 0 + 2 ^ q))) g 0 < 65536
+    fit zero u =
+        elim (ℕ_discrete g k) [
+          | yes z ↦ rw (z, get_or-set_same m k (get_or m k 0 + 2 ^ q) 0 l) (raise_fits q (get_or m k 0) (2 ^ q) r R.below u refl)
+          | no z ↦ rw (get_or-set_other m k g (get_or m k 0 + 2 ^ q) 0 z) f
+        ]
+    fit (suc b) u = let v : b ≡ 0 = omega arith in rw v f
 
 -- of both lists of masks together
 module _ (m : List ℕ) (k q : ℕ) (size : length m ≡ all_masks) (l : k < all_masks) (r : q < 16) (m' : List ℕ) (R : Raised m k q m') where
@@ -242,19 +239,11 @@ module _ (m h : List ℕ) (total : ℕ) (t : Tallied m h total) (k q : ℕ) (r :
         record {
           size = t.size;
           regions = ap length R.raised ∙ (raised_size h j q ∙ t.regions);
-          fits = λ g lg. rw R.raised (fit g lg (get_or h j 0 / 2 ^ q % 2) refl);
+          fits = λ g lg. raised_fit h j q r (omega (arith, t.regions)) h' R g (t.fits g lg);
           count = sym (raised_count (m ++ h) k q both_size l r (m ++ h') both_behind
               ∙ (rw (le-ltb k plan_masks (omega arith)) (none (has_rank (get_or (m ++ h) k 0) q)) ∙ sym t.count));
         }
       where
-        fit : (g : ℕ) → g < max_regions → (b : ℕ) → get_or h j 0 / 2 ^ q % 2 ≡ b → get_or (cond (eqb b 1) h (set h j (get_or h j 0 + 2 ^ q))) g 0 < 65536
-        fit g lg zero u =
-            elim (ℕ_discrete g j) [
-              | yes z ↦ rw (z, get_or-set_same h j (get_or h j 0 + 2 ^ q) 0 (omega (arith, t.regions))) (raise_fits q (get_or h j 0) (2 ^ q) r R.below u refl)
-              | no z ↦ rw (get_or-set_other h j g (get_or h j 0 + 2 ^ q) 0 z) (t.fits g lg)
-            ]
-        fit g lg (suc b) u = let v : b ≡ 0 = omega arith in rw v (t.fits g lg)
-
         none : (b : Bool) → flag_count (flags_of (m ++ h)) + cond b 0 0 ≡ flag_count (flags_of (m ++ h))
         none true = omega arith
         none false = omega arith

@@ -31,9 +31,9 @@ pub tasks_few : (w : List ℕ) (n : ℕ) → words_ok w ≡ true → n ≡ tasks
 tasks_few w n h e = omega (arith, (formed w h).tasks_most)
 
 -- the writers after the visit
-pub writers_found : (w : List ℕ) (n x y : ℕ) (none last : List ℕ) → n ≡ tasks_of w → none ≡ no_writers y → y ≡ x → x ≡ regions_of w → last ≡ noted_tasks w n none
+pub writers_found : (w : List ℕ) (n x : ℕ) (none last : List ℕ) → n ≡ tasks_of w → none ≡ no_writers x → x ≡ regions_of w → last ≡ noted_tasks w n none
     → last ≡ noted_tasks w (tasks_of w) (no_writers (regions_of w))
-writers_found w n x y none last e f g h k = k ∙ rw (f, g, h, e)
+writers_found w n x none last e f h k = k ∙ rw (f, h, e)
 
 -- no region is closed yet
 module _ (w : List ℕ) where
@@ -52,12 +52,12 @@ module _ (w : List ℕ) where
       ∙ (bits_ext 16 (late_at w 0 (k / 8) (k % 8)) (λ _. false) (λ q m. late_none (k / 8) (k % 8) q) ∙ sum_const 16 0)))
 
   -- the visit
-  module _ (n x y : ℕ) (none zeros nones m ahead : List ℕ) (r : ℕ) (h : words_ok w ≡ true) (e : n ≡ tasks_of w) (f : none ≡ no_writers y) (g : y ≡ x)
+  module _ (n x : ℕ) (none zeros nones m ahead : List ℕ) (r : ℕ) (h : words_ok w ≡ true) (e : n ≡ tasks_of w) (f : none ≡ no_writers x)
       (i : x ≡ regions_of w) (z : zeros ≡ replicate plan_masks 0) (o : nones ≡ replicate max_regions 0)
       (k : flags_of (m ++ ahead) ≡ marked_tasks w none n (flags_of (zeros ++ nones))) (t : Tallied m ahead r)
-      (fits : (j : ℕ) → get_or m j 0 < 65536) where
+      (fits : (j : ℕ) → j < plan_masks → get_or m j 0 < 65536) where
     found : flags_of (m ++ ahead) ≡ marked_tasks w (no_writers (regions_of w)) (tasks_of w) (replicate plan_flags 0)
-    found = k ∙ rw (flags_unset zeros nones z o, f, g, i, e)
+    found = k ∙ rw (flags_unset zeros nones z o, f, i, e)
 
     size : length (m ++ ahead) ≡ all_masks
     size = length-append m ahead ∙ omega (arith, t.size, t.regions)
@@ -65,7 +65,7 @@ module _ (w : List ℕ) where
     both_fit : (j : ℕ) → j < all_masks → get_or (m ++ ahead) j 0 < 65536
     both_fit j below =
         elim (dec_lt j (length m)) [
-          | yes l ↦ omega (arith, get_or-append m ahead 0 j l, fits j)
+          | yes l ↦ omega (arith, get_or-append m ahead 0 j l, fits j (omega (arith, t.size)))
           | no l ↦ (let u : j ≡ length m + (j - length m) = omega arith in rw u (omega (arith, get_or-append-add m ahead (j - length m) 0, t.fits (j - length m) (omega (arith, t.size)))))
         ]
 

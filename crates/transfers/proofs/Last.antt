@@ -25,8 +25,8 @@ use Rattle.body.specs.Transfers.{last_before}
 use Rattle.body.proofs.Writers.{last_wrote, last_kept}
 use Rattle.plan.specs.Limits.{max_regions, max_accesses}
 use Rattle.plan.specs.Layout.{regions_of, tasks_of, rank_of, accesses_of, region_at, is_written, writes_of, body_of}
-use Rattle.transfers.specs.Search.{row_of, writes_in, region_in, Laid, Ready, access_base, base_of, Apart, unwritten, no_writers, source_end, Sources, noted, noted_task, noted_tasks}
-use Rattle.plan.proofs.Facts.{Formed, formed}
+use Rattle.transfers.specs.Search.{row_of, writes_in, region_in, Ready, access_base, base_of, Apart, unwritten, no_writers, source_end, Sources, noted, noted_task, noted_tasks}
+use Rattle.plan.proofs.Facts.{Formed}
 use Rattle.transfers.proofs.Rows.{row_writes, row_region}
 
 -- noted
@@ -109,9 +109,6 @@ pub noted_tasks_more : (w : List ℕ) (t : ℕ) (last xs ys : List ℕ) → xs �
 unfolding noted_tasks
 noted_tasks_more w t last xs ys h e = rw (add-one, e, h)
 
-pub noted_tasks_done : (w : List ℕ) (n t : ℕ) (last xs : List ℕ) → xs ≡ noted_tasks w t last → n ≤ t → t ≤ n → xs ≡ noted_tasks w n last
-noted_tasks_done w n t last xs h p q = let e : n ≡ t = omega arith in rw e h
-
 -- no_writers
 
 pub sources_none : (n : ℕ) → Sources (no_writers n)
@@ -161,9 +158,6 @@ no_writers_more xs n g e l most =
         ∙ (ap (λ (ys : List ℕ). cond (eqb k g) (unwritten g) (get_or ys k 0)) e
         ∙ (ap (λ (x : ℕ). cond (eqb k g) (unwritten g) x) (get_d_tabulate (λ k. cond (ltb k g) (unwritten k) 0) max_regions k 0 m)
         ∙ (one k (eqb k g) refl ∙ sym (get_d_tabulate (λ k. cond (ltb k (g + 1)) (unwritten k) 0) max_regions k 0 m))))
-
-pub no_writers_done : (n g : ℕ) (xs : List ℕ) → xs ≡ no_writers g → n ≤ g → g ≤ n → xs ≡ no_writers n
-no_writers_done n g xs h p q = let e : n ≡ g = omega arith in rw e h
 
 module _ (w : List ℕ) where
   -- s names the access of task i that writes region g
@@ -249,7 +243,3 @@ module _ (w : List ℕ) (F : Formed w) where
       (λ e. rw (last_wrote (body_of w) t g e) (task_wrote t g (last_at w t) l (omega (arith, (sources_after t (no_writers (regions_of w)) (omega arith) (sources_none (regions_of w))).size, F.regions_most)) e))
       (λ e. rw (last_kept (body_of w) t g e, task_kept t g (last_at w t) l e) (last_named g m t (omega arith)))
       (true_or_false (mem g (writes_of w t)))
-
--- in a loop over the first n tasks
-pub sources_noted : (w : List ℕ) (table : List (List ℕ)) (last xs : List ℕ) (n t : ℕ) → Laid w table → n ≤ tasks_of w → t ≤ n → Sources last → xs ≡ noted_tasks w t last → Sources xs
-sources_noted w table last xs n t h m l s f = rw f (sources_after w (formed w h.ok) t last (omega arith) s)

@@ -7,5 +7,6 @@ pub mod Foreign
 pub mod Flags
 pub mod Tally
 pub mod Masks
+pub mod Served
 pub mod Closing
 pub mod Found

@@ -1,14 +1,13 @@
 -- The turns of the loops that set flags: _none, _more and _done are a loop's, before its first
 -- turn, over a turn, and after its last.
-use Prim.Native.Nat.{ℕ, ◌+◌, ◌*◌, ◌/◌, ◌≤◌, ◌<◌}
+use Prim.Native.Nat.{ℕ, ◌+◌, ◌*◌, ◌/◌, ◌<◌}
 use mathlib.Core.Path.{◌≡◌, refl, ◌∙◌}
 use mathlib.Core.Bool.{Bool, true, false}
 use mathlib.Core.List.{List, []}
 use native.Mathlib.Numerals.{add-one}
-use native.Mathlib.Omega.{arith}
 use lib.ListN.{get_or, set}
 use Rattle.plan.specs.Layout.{rank_of, accesses_of}
-use Rattle.transfers.specs.Search.{reads_in, region_in, Apart, Ready, source_end, Sources, noted, noted_tasks, claims, claimed, marked, marked_task, marked_tasks}
+use Rattle.transfers.specs.Search.{reads_in, region_in, Apart, Ready, noted, noted_tasks, claims, claimed, marked, marked_task, marked_tasks}
 use Rattle.transfers.proofs.Last.{noted_own}
 
 -- claimed
@@ -28,15 +27,9 @@ pub marked_none : (row last : List ℕ) (q : ℕ) (flags : List ℕ) → flags �
 unfolding marked
 marked_none row last q flags = refl
 
-pub marked_done : (row last : List ℕ) (q n a : ℕ) (flags xs : List ℕ) → xs ≡ marked row last q a flags → n ≤ a → a ≤ n → xs ≡ marked row last q n flags
-marked_done row last q n a flags xs h p r = let e : n ≡ a = omega arith in rw e h
-
 -- a turn reads the writer of the region g of access a from xs, where the writes of the accesses
 -- before are noted
 module _ (row last xs : List ℕ) (base n a g : ℕ) (h : Apart row n) (l : a < n) (e : xs ≡ noted row base a last) (k : g ≡ region_in row a) where
-  pub source_below : Sources last → get_or xs g 0 < source_end
-  source_below s = rw (k, noted_own row base n a last xs h l e) (s.each (region_in row a))
-
   pub marked_more : (q : ℕ) (flags fs ys : List ℕ) → fs ≡ marked row last q a flags → ys ≡ claimed (reads_in row a) (get_or xs g 0) q fs
       → ys ≡ marked row last q (a + 1) flags
   unfolding marked
@@ -57,6 +50,3 @@ pub marked_tasks_more : (w last : List ℕ) (t : ℕ) (flags ls xs ys : List ℕ
     → ys ≡ marked_task w ls t xs → ys ≡ marked_tasks w last (t + 1) flags
 unfolding marked_tasks
 marked_tasks_more w last t flags ls xs ys h e f = rw (add-one, f, h, e)
-
-pub marked_tasks_done : (w last : List ℕ) (n t : ℕ) (flags xs : List ℕ) → xs ≡ marked_tasks w last t flags → n ≤ t → t ≤ n → xs ≡ marked_tasks w last n flags
-marked_tasks_done w last n t flags xs h p q = let e : n ≡ t = omega arith in rw e h

@@ -1,21 +1,12 @@
 -- The words that the numbers of accesses are made of, and masks of ranks.
-use Prim.Native.Nat.{ℕ, ◌+◌, ◌-◌, ◌*◌, ◌%◌, ◌^◌, ◌≤◌, ◌<◌}
+use Prim.Native.Nat.{ℕ, ◌+◌, ◌-◌, ◌*◌, ◌^◌, ◌≤◌, ◌<◌}
 use mathlib.Core.Path.{◌≡◌, sym, ◌∙◌, ap}
-use mathlib.Core.List.{List}
 use native.Mathlib.Nat.{mod-eq_of_lt}
 use native.Mathlib.Omega.{arith}
-use lib.Bits.{bit_and, bit_or, bit_xor, xor_add_and, and_comm, and_le_l, and_mask, or_lt, or_shifted}
-use lib.Count.{ones, ones-le}
-use lib.Pow.{pow_mono}
-use lib.ListN.{get_or, set}
+use lib.Bits.{bit_and, bit_or, bit_xor, xor_add_and, and_comm, and_le_l, and_mask, or_shifted}
 use Rattle.finite.proofs.Bitwise.{bits_and_not}
 use Rattle.plan.specs.Limits.{max_tasks}
-use Rattle.transfers.specs.Search.{access_flags, late_of}
-
-pub power_word : (q : ℕ) → q < 16 → ((1 * 2 ^ q) % 18446744073709551616 ≡ 2 ^ q) × ((1 * 2 ^ q) % 18446744073709551616 ≤ 32768)
-power_word q l =
-    let m : 2 ^ q ≤ 2 ^ 15 = pow_mono {i = q} {j = 15} (omega arith) in
-    (omega arith, omega arith)
+use Rattle.transfers.specs.Search.{late_of}
 
 -- all bits below n but those of b
 xor_ones : (n b : ℕ) → b < 2 ^ n → bit_xor (2 ^ n - 1) b ≡ 2 ^ n - 1 - b
@@ -41,19 +32,3 @@ base_word t q b l e m = (word ∙ ap (λ (x : ℕ). 524288 * t + (65535 - x)) e,
 pub late_word : (ahead s forward : ℕ) → ahead < 65536 → forward < 65536
     → (bit_and (bit_and ahead s) (bit_xor 65535 forward) ≡ late_of ahead s forward) × (bit_and (bit_and ahead s) (bit_xor 65535 forward) < 65536)
 late_word ahead s forward l m = (bits_and_not 16 ahead s forward l m, omega (arith, and_le_l (bit_and ahead s) (bit_xor 65535 forward), and_le_l ahead s))
-
-pub either_below : (x y : ℕ) → x < 65536 → y < 65536 → bit_or x y < 65536
-either_below x y l m = or_lt 16 x y l m
-
--- ranks added to a mask, and counted
-pub added_mask : (m : List ℕ) (k x y v : ℕ) → x ≡ get_or m k 0 → v ≡ bit_or x y → set m k v ≡ set m k (bit_or (get_or m k 0) y)
-added_mask m k x y v e f = rw (f, e)
-
-pub put_as : (m : List ℕ) (k x v : ℕ) → v ≡ x → set m k v ≡ set m k x
-put_as m k x v e = rw e
-
-pub counted_as : (total x y : ℕ) → y ≡ ones x → total + y ≡ total + ones x
-counted_as total x y e = rw e
-
-pub counted_fits : (total x y : ℕ) → total ≤ access_flags → x < 65536 → y ≡ ones x → total + y < 18446744073709551616
-counted_fits total x y l m e = omega (arith, ones-le 16 x m)

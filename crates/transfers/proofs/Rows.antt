@@ -10,7 +10,7 @@ use lib.Seq.{get_or-take}
 use Rattle.finite.specs.Lists.{tabulate}
 use Rattle.finite.proofs.Lists.{tabulate_more, get_d_tabulate}
 use Rattle.plan.specs.Limits.{max_tasks, max_accesses}
-use Rattle.plan.specs.Layout.{tasks_of, accesses_of, access_at, region_at, is_written, plan_words, writes, access_region}
+use Rattle.plan.specs.Layout.{tasks_of, accesses_of, access_at, region_at, is_written, writes, access_region}
 use Rattle.plan.specs.Form.{words_ok}
 use Rattle.transfers.specs.Search.{row_of, Narrow, writes_in, region_in, Rows, Laid, Apart, Ready}
 use Rattle.plan.proofs.Facts.{formed}
@@ -26,12 +26,11 @@ pub row_region : (w : List ℕ) (t a : ℕ) → a < max_accesses → region_in (
 row_region w t a l = ap access_region (row_at w t a l)
 
 -- they fit 16 bits
-pub narrow : (w : List ℕ) (n t : ℕ) → plan_words ≤ length w → words_ok w ≡ true → n ≡ tasks_of w → t < n → Narrow w t
-narrow w n t long ok e l =
+pub narrow : (w : List ℕ) (n t : ℕ) → words_ok w ≡ true → n ≡ tasks_of w → t < n → Narrow w t
+narrow w n t ok e l =
     let f = formed w ok in
     let u = f.used t (omega arith) in
     record {
-      long = long;
       below = omega (arith, f.tasks_most);
       fits =
           λ a m.
@@ -63,8 +62,8 @@ pub rows_more : (w : List ℕ) (n t : ℕ) (row : List ℕ) (table : List (List 
 unfolding Rows
 rows_more w n t row table h l m size e = tabulate_more (row_of w) t row table h (omega arith) e
 
-pub laid : (w : List ℕ) (table : List (List ℕ)) (n t : ℕ) → plan_words ≤ length w → words_ok w ≡ true → Rows w t table → n ≤ t → t ≤ n → n ≡ tasks_of w → Laid w table
-laid w table n t long ok rows p q e = record { long = long; ok = ok; rows = let z : tasks_of w ≡ t = omega arith in rw z rows }
+pub laid : (w : List ℕ) (table : List (List ℕ)) (n t : ℕ) → words_ok w ≡ true → Rows w t table → n ≤ t → t ≤ n → n ≡ tasks_of w → Laid w table
+laid w table n t ok rows p q e = record { ok = ok; rows = let z : tasks_of w ≡ t = omega arith in rw z rows }
 
 -- a task of a loop over the first n
 pub ready : (w : List ℕ) (table : List (List ℕ)) (n t : ℕ) → Laid w table → t < n → n ≤ tasks_of w → Ready w table t
@@ -76,7 +75,6 @@ ready w table n t h l m =
     let region : (a : ℕ) → a < accesses_of w t → region_in (get_or table t []) a ≡ region_at w t a =
     λ a k. ap (λ (r : List ℕ). region_in r a) row ∙ row_region w t a (omega (arith, u.accesses_most)) in
     record {
-      long = h.long;
       below = omega (arith, f.tasks_most);
       rank_most = u.rank_most;
       accesses_most = u.accesses_most;
@@ -85,5 +83,3 @@ ready w table n t h l m =
     }
 
 -- of a number that is known otherwise
-pub apart_as : (row : List ℕ) (n n' : ℕ) → Apart row n → n' ≡ n → Apart row n'
-apart_as row n n' h e = rw e h

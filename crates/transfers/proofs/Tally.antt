@@ -25,7 +25,7 @@ per_flag_at p k i a q l m e =
 
 -- the ranks of one access are more by d
 pub count_more_at : (p r : ℕ → ℕ → ℕ → Bool) (i a d : ℕ) → i < 128 → a < 8 → count_below 16 (r i a) ≡ count_below 16 (p i a) + d
-    → ((j b q : ℕ) → q < 16 → (j ≡ i → b ≡ a → ⊥) → r j b q ≡ p j b q)
+    → ((j b q : ℕ) → b < 8 → q < 16 → (j ≡ i → b ≡ a → ⊥) → r j b q ≡ p j b q)
     → count_below access_flags (per_flag r) ≡ count_below access_flags (per_flag p) + d
 count_more_at p r i a d li la e h =
     by_access r
@@ -45,7 +45,7 @@ count_more_at p r i a d li la e h =
         rw (u, v) e
 
     other : (k : ℕ) → k < 1024 → (k ≡ 8 * i + a → ⊥) → count_below 16 (r (k / 8) (k % 8)) ≡ count_below 16 (p (k / 8) (k % 8))
-    other k l n = count_ext 16 (r (k / 8) (k % 8)) (p (k / 8) (k % 8)) (λ q m. h (k / 8) (k % 8) q m (λ x y. n (omega arith)))
+    other k l n = count_ext 16 (r (k / 8) (k % 8)) (p (k / 8) (k % 8)) (λ q m. h (k / 8) (k % 8) q (omega arith) m (λ x y. n (omega arith)))
 
 module _ (w : List ℕ) (F : Formed w) where
   -- by task, access and rank

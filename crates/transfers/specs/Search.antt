@@ -7,7 +7,7 @@ use Rattle.finite.specs.Below.{count_below}
 use Rattle.finite.specs.Lists.{tabulate}
 use Rattle.body.specs.Transfers.{forward}
 use Rattle.plan.specs.Limits.{max_tasks, max_ranks, max_regions, max_accesses}
-use Rattle.plan.specs.Layout.{plan_words, ranks_of, tasks_of, rank_of, accesses_of, access_at, access_region, region_at, is_written, reads, writes, body_of}
+use Rattle.plan.specs.Layout.{ranks_of, tasks_of, rank_of, accesses_of, access_at, access_region, region_at, is_written, reads, writes, body_of}
 use Rattle.plan.specs.Form.{words_ok}
 use Rattle.transfers.specs.Wanted.{plan_masks, has_rank, mask_of, masks_by, wrapped_at}
 
@@ -15,9 +15,8 @@ use Rattle.transfers.specs.Wanted.{plan_masks, has_rank, mask_of, masks_by, wrap
 abbrev pub row_of : List ℕ → ℕ → List ℕ
 row_of w t = tabulate max_accesses (access_at w t)
 
--- the words of a row are there, and fit 16 bits
+-- the words of a row fit 16 bits
 pub record Narrow (w : List ℕ) (t : ℕ) : Type 0 where
-  pub long : plan_words ≤ length w
   pub below : t < max_tasks
   pub fits : (a : ℕ) → a < max_accesses → access_at w t a < 65536
 
@@ -41,14 +40,12 @@ Rows w n table = take n table ≡ tabulate n (row_of w)
 
 -- words in form, and a table of the rows of all their tasks
 pub record Laid (w : List ℕ) (table : List (List ℕ)) : Type 0 where
-  pub long : plan_words ≤ length w
   pub ok : words_ok w ≡ true
   pub rows : Rows w (tasks_of w) table
 
--- task t can be looked at: the words are there, its rank and number of accesses within the limits,
--- its row in the table
+-- task t can be looked at: its rank and number of accesses are within the limits, its row is in the
+-- table
 pub record Ready (w : List ℕ) (table : List (List ℕ)) (t : ℕ) : Type 0 where
-  pub long : plan_words ≤ length w
   pub below : t < max_tasks
   pub rank_most : rank_of w t < max_ranks
   pub accesses_most : accesses_of w t ≤ max_accesses

@@ -11,19 +11,17 @@ ghost use Rattle.waits.specs.Stored.{lowered_to};
 ghost use Rattle.plan.specs.Limits.{max_passes};
 ghost use Rattle.plan.specs.Sizes.{max_items, count_words, first_unmet};
 ghost use Rattle.plan.specs.Layout.{body_of};
-ghost use Rattle.graph.specs.Table.{Graph};
 ghost use Rattle.walk.specs.Rows.{Marks};
 ghost use Rattle.steps.specs.State.{done_by, unmet_by};
 
-use plan::layout::pass_count;
-use plan::numbers::one_if;
-use plan::state::{Count, FIRST_FINISHED, FIRST_UNMET, MAX_ITEMS, own_passes};
+use graph::items::Items;
+use plan::state::{Count, FIRST_FINISHED, FIRST_UNMET, MAX_ITEMS};
 
 // The distance of an edge from item b to item a.
 fn distance_of(b: usize, a: usize) -> Count
     ensures { (result ≡ distance b a) × (result ≤ 1) }
 {
-    one_if(a <= b)
+    Count::from(a <= b)
 }
 
 // One less, 0 staying 0.
@@ -52,27 +50,16 @@ fn lower_number(counts: &mut [Count], a: usize, mark: u8, own: Count, served: Co
 
 // Lowers the numbers of the items whose wait a finish of item b meets, before it is counted. The
 // marks are those of the edges from b.
-pub fn lower_waits(
-    plan: &[u64],
-    table: &[u16; MAX_ITEMS],
-    marks: &[u8; MAX_ITEMS],
-    n: usize,
-    b: usize,
-    counts: &mut [Count],
-)
-    requires { Graph plan.now table.now n × Marks (body_of plan.now) n b false marks.now × (b < n)
+pub fn lower_waits(items: &Items, marks: &[u8; MAX_ITEMS], b: usize, counts: &mut [Count])
+    requires { Marks (body_of items.now.plan.now) (length items.now.codes.now) b false marks.now × (b < length items.now.codes.now)
         × (count_words ≤ length counts.old) × (done_by counts.old b < max_passes) }
-    ensures { counts.new ≡ lowered_to (system (body_of plan.now)) (edge_test (body_of plan.now)) first_unmet
-        (done_by counts.old) b n counts.old }
+    ensures { counts.new ≡ lowered_to (system (body_of items.now.plan.now)) (edge_test (body_of items.now.plan.now)) first_unmet
+        (done_by counts.old) b (length items.now.codes.now) counts.old }
 {
-    let passes = pass_count(plan);
     let pass = counts[FIRST_FINISHED + b];
-    let mut a: usize = 0;
-    while a < n {
-        let own = own_passes(passes, table[a]);
+    for a in 0..items.codes.len() {
         let served = pass + distance_of(b, a);
-        lower_number(counts, a, marks[a], own, served);
-        a += 1;
+        lower_number(counts, a, marks[a], items.passes(a), served);
     }
 }
 
@@ -80,36 +67,24 @@ pub fn lower_waits(
 fn unmet_of(mark: u8, done: Count, need: Count) -> Count
     ensures { (result ≡ cond (eqb mark 1 && ltb done need) 1 0) × (result ≤ 1) }
 {
-    if mark != 1 {
-        return 0;
-    }
-    one_if(done < need)
+    Count::from((mark == 1) & (done < need))
 }
 
 // Counts the unmet waits of item a for the first pass that it has not finished. The marks are those
 // of the edges to a. Every pass that it waits for is made.
-pub fn count_unmet(
-    plan: &[u64],
-    table: &[u16; MAX_ITEMS],
-    marks: &[u8; MAX_ITEMS],
-    n: usize,
-    a: usize,
-    counts: &[Count],
-) -> Count
-    requires { Graph plan.now table.now n × Marks (body_of plan.now) n a true marks.now × (a < n)
+pub fn count_unmet(items: &Items, marks: &[u8; MAX_ITEMS], a: usize, counts: &[Count]) -> Count
+    requires { Marks (body_of items.now.plan.now) (length items.now.codes.now) a true marks.now × (a < length items.now.codes.now)
         × (count_words ≤ length counts.now) }
-    ensures { result ≡ fresh_count (system (body_of plan.now)) (edge_test (body_of plan.now)) (done_by counts.now) a }
+    ensures { result ≡ fresh_count (system (body_of items.now.plan.now)) (edge_test (body_of items.now.plan.now)) (done_by counts.now) a }
 {
     let pass = counts[FIRST_FINISHED + a];
-    if own_passes(pass_count(plan), table[a]) <= pass {
+    if items.passes(a) <= pass {
         return 0;
     }
     let mut count: Count = 0;
-    let mut b: usize = 0;
-    while b < n {
+    for b in 0..items.codes.len() {
         let need = pass + 1 - distance_of(b, a);
         count += unmet_of(marks[b], counts[FIRST_FINISHED + b], need);
-        b += 1;
     }
     count
 }

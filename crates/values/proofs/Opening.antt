@@ -101,9 +101,6 @@ module _ (items : List ℕ) where
       or_both (eqb i (first_held + a)) (is_send items a && eqb i (first_slot + a)) (chosen first_slot (is_send items) a i) (within first_held a i)
       ∙ sym (rw (chosen_next first_slot (is_send items) a i, within_next first_held a i))))
 
-  pub words_done : (xs ys : List ℕ) (n a : ℕ) → ys ≡ replaced (words_below items a) (λ x. 0) xs → n ≤ a → a ≤ n → ys ≡ replaced (words_below items n) (λ x. 0) xs
-  words_done xs ys n a h k l = let e : n ≡ a = omega arith in rw e h
-
   word_behind : (a x : ℕ) → words_below items a x ≡ true → first_slot ≤ x
   word_behind a x h =
       ⊎_elim

@@ -52,10 +52,6 @@ module _ (p : ℕ → Bool) (f : ℕ → ℕ) (v : ℕ) (xs : List ℕ) where
   unfolding gather
   written_more k at t ys zs h l e q z = rw add-one (z ∙ (rw (h, q) (turn k at l e (p k))))
 
-  pub written_done : (n k : ℕ) (ys : List ℕ) → ys ≡ replaced (λ g. mem g (gather k p f)) (λ g. v) xs → n ≤ k → k ≤ n →
-      ys ≡ replaced (λ g. mem g (gather n p f)) (λ g. v) xs
-  written_done n k ys h l m = let e : n ≡ k = omega arith in rw e h
-
 -- the slot that item a writes
 slots_written : ℕ → Item → List ℕ
 slots_written a (task i) = []

@@ -1,6 +1,5 @@
 -- What the inner functions are lent of a plan. Nothing here need be believed.
 use Rattle.std.specs.Prelude.{ℕ, ◌<◌, ◌≡◌, true, List, [], ◌∷◌, length}
-use Rattle.std.proofs.Math.Option.{Option, none, some}
 use Rattle.body.specs.Body.{Body}
 use Rattle.body.specs.Items.{Item, task, send, receive, item_count, item_at}
 use Rattle.plan.specs.Layout.{plan_words, body_of}
@@ -23,8 +22,3 @@ unfoldable pub regions_written : Body → Item → List ℕ
 regions_written B (task i) = B.writes i
 regions_written B (send i g q) = []
 regions_written B (receive i g q) = g ∷ []
-
--- a task as a number, 128 where there is none
-abbrev pub task_or128 : Option ℕ → ℕ
-task_or128 none = 128
-task_or128 (some j) = j

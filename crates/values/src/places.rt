@@ -14,49 +14,44 @@ ghost use Rattle.graph.specs.Table.{Task};
 ghost use Rattle.values.specs.Items.{Formed, Found, regions_written};
 
 use plan::code::{RECEIVE, SEND, TASK, item_kind, item_rank, item_subject};
-use plan::layout::{
-    access_at, access_region, accesses_of, constant_of, kernel_of, put_if, reads_region,
-    regions_of, writes_region,
-};
-use plan::numbers::{as_index, one_if};
+use plan::layout::{access_region, put_if, reads_region, writes_region};
 use plan::state::slot_of;
+use plan::words::Plan;
 
 // Where the copies of an item's rank start.
-pub fn first_copy(plan: &[u64], code: u64, a: usize) -> usize
+pub fn first_copy(plan: &Plan, code: u64, a: usize) -> usize
     requires { Found plan.now a code }
     ensures { (result ≡ rank_at (body_of plan.now) a * (body_of plan.now).regions) × (result ≤ 1920) }
 {
-    as_index(item_rank(code) * regions_of(plan))
+    (item_rank(code) * plan.regions()) as usize
 }
 
 // How many copies a rank has.
-fn region_count(plan: &[u64]) -> usize
+fn region_count(plan: &Plan) -> usize
     requires { Formed plan.now }
     ensures { (result ≡ regions_of plan.now) × (result ≤ max_regions) }
 {
-    as_index(regions_of(plan))
+    plan.regions() as usize
 }
 
 // The word that task i computes from the copies of its rank.
-fn task_word(plan: &[u64], i: usize, copies: &[u64]) -> u64
+fn task_word(plan: &Plan, i: usize, copies: &[u64]) -> u64
     requires { Task plan.now i × (length copies.now ≡ regions_of plan.now) }
     ensures { result ≡ (body_of plan.now).compute i (map (λ g. get_or copies.now g 0) ((body_of plan.now).reads i)) }
 {
-    let count = accesses_of(plan, i);
+    let count = plan.access_count(i);
     let mut reads = [0u64; 8];
     let mut n: usize = 0;
-    let mut k: usize = 0;
-    while k < count {
-        let access = access_at(plan, i, k);
+    for k in 0..count {
+        let access = plan.access(i, k);
         reads[n] = copies[access_region(access)];
-        n += as_index(one_if(reads_region(access)));
-        k += 1;
+        n += usize::from(reads_region(access));
     }
-    kernels::kernel_word(kernel_of(plan, i), constant_of(plan, i), &reads[..n])
+    kernels::kernel_word(plan.kernel(i), plan.constant(i), &reads[..n])
 }
 
 // The word that item a reads and computes.
-pub fn item_word(plan: &[u64], code: u64, a: usize, values: &[u64]) -> u64
+pub fn item_word(plan: &Plan, code: u64, a: usize, values: &[u64]) -> u64
     requires { Found plan.now a code × (value_words ≤ length values.now) }
     ensures { result ≡ word_on (system (body_of plan.now)) a (λ x. get_or values.now x 0) }
 {
@@ -75,21 +70,19 @@ pub fn item_word(plan: &[u64], code: u64, a: usize, values: &[u64]) -> u64
 }
 
 // The word goes to the copy of each region that task i writes.
-fn write_task(plan: &[u64], i: usize, copies: &mut [u64], word: u64)
+fn write_task(plan: &Plan, i: usize, copies: &mut [u64], word: u64)
     requires { Task plan.now i × (length copies.old ≡ regions_of plan.now) }
     ensures { copies.new ≡ replaced (λ g. mem g (writes_of plan.now i)) (λ g. word) copies.old }
 {
-    let count = accesses_of(plan, i);
-    let mut k: usize = 0;
-    while k < count {
-        let access = access_at(plan, i, k);
+    let count = plan.access_count(i);
+    for k in 0..count {
+        let access = plan.access(i, k);
         put_if(copies, access_region(access), word, writes_region(access));
-        k += 1;
     }
 }
 
 // The writer of copies: the word goes to those that item a writes, on its rank.
-fn write_copies(plan: &[u64], code: u64, a: usize, copies: &mut [u64], word: u64)
+fn write_copies(plan: &Plan, code: u64, a: usize, copies: &mut [u64], word: u64)
     requires { Found plan.now a code × (length copies.old ≡ regions_of plan.now) }
     ensures { copies.new ≡ replaced (λ g. mem g (regions_written (body_of plan.now) (item_at (body_of plan.now) a))) (λ g. word) copies.old }
 {
@@ -103,7 +96,7 @@ fn write_copies(plan: &[u64], code: u64, a: usize, copies: &mut [u64], word: u64
 }
 
 // The word goes to the places that item a writes.
-pub fn write_places(plan: &[u64], code: u64, a: usize, values: &mut [u64], word: u64)
+pub fn write_places(plan: &Plan, code: u64, a: usize, values: &mut [u64], word: u64)
     requires { Found plan.now a code × (value_words ≤ length values.old) }
     ensures { values.new ≡ replaced (λ x. mem x ((system (body_of plan.now)).writes a)) (λ x. word) values.old }
 {

@@ -7,11 +7,11 @@ use mathlib.Core.List.{List}
 use native.Mathlib.Decide.{dec_lt, ℕ_discrete}
 use native.Mathlib.Numerals.{add-one}
 use native.Mathlib.Omega.{arith}
-use borrow.Author.Tests.{eq-eqb, ne_eqb, ltb-true, ltb-false, lt-leb}
-use lib.Dec.{eqb, ltb, leb}
+use borrow.Author.Tests.{eq-eqb, ne_eqb, lt-leb}
+use lib.Dec.{eqb, leb}
 use lib.ListN.{length, get_or, set}
 use Rattle.finite.specs.Below.{any_below}
-use Rattle.finite.proofs.Tests.{false_of, not_both, or_parts, and-true as all_true}
+use Rattle.finite.proofs.Tests.{false_of, not_both, or_parts}
 use Rattle.finite.proofs.Below.{any_none, any_next, any_ext, any_at, any_from, any_never}
 use Rattle.finite.proofs.Update.{set_at, length_set_if}
 use Rattle.edges.specs.Tests.{written}
@@ -266,16 +266,11 @@ module _ (n : ℕ) (T : ℕ → ℕ → ℕ) where
         rw (e, u) at P
     run_done false k l l' m m' a b P = let e : k ≡ count = omega arith in rw e at P
 
-    -- the loop ends behind the last item, or once no place is open
-    pub run_ended : ((b g : ℕ) → T b g ≤ 2) → (back : Bool) (k : ℕ) (left : Bool) (l l' m m' : List ℕ) → (ltb k count && left) ≡ false → k ≤ count → (left ≡ false → Shut l')
+    -- no place is open, so that no item behind would be marked
+    pub run_shut : ((b g : ℕ) → T b g ≤ 2) → (back : Bool) (k : ℕ) (l l' m m' : List ℕ) → k ≤ count → Shut l'
         → Passes n T (first_of lo count back k) k back l l' m m' → Passes n T lo count back l l' m m'
-    run_ended few back k true l l' m m' h a z P = run_done back k l l' m m' (ltb-false k count (sym (and-true (ltb k count)) ∙ h)) a P
-    run_ended few true k false l l' m m' h a z P = pass_shut true lo count (lo + (count - k)) k (part_back lo count k a) l l' m m' P (z refl) few
-    run_ended few false k false l l' m m' h a z P = pass_shut false lo count lo k (part_onwards lo count k a) l l' m m' P (z refl) few
-
--- the loop goes on
-pub goes_on : (k count : ℕ) (left : Bool) → (ltb k count && left) ≡ true → k < count
-goes_on k count left h = ltb-true k count (all_true (ltb k count) left h).0
+    run_shut few true k l l' m m' a z P = pass_shut true lo count (lo + (count - k)) k (part_back lo count k a) l l' m m' P z few
+    run_shut few false k l l' m m' a z P = pass_shut false lo count lo k (part_onwards lo count k a) l l' m m' P z few
 
 -- no place of the list is open
 pub shut_all : (l : List ℕ) → any_open l ≡ false → Shut l

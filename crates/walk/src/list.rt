@@ -6,21 +6,17 @@ ghost use Rattle.edges.specs.Tests.{distance};
 ghost use Rattle.plan.specs.Sizes.{max_items, edge_words};
 ghost use Rattle.plan.specs.Layout.{body_of};
 ghost use Rattle.graph.specs.Answers.{three};
-ghost use Rattle.graph.specs.Table.{Graph};
 ghost use Rattle.walk.specs.Listing.{row_of, numbers_from};
 
 use crate::rows::mark_row;
-use plan::numbers::narrow_32;
+use graph::items::Items;
 use plan::state::MAX_ITEMS;
 
-// 0 to a later item, else 1.
+// 0 to a later item, else 1: one expression in the type that a list of edges has.
 fn distance_of(a: usize, b: usize) -> u32
     ensures { result ≡ distance a b }
 {
-    if a < b {
-        return 0;
-    }
-    1
+    u32::from(b <= a)
 }
 
 // Puts the edge from a to b from an offset on, and answers the offset behind it.
@@ -28,8 +24,8 @@ fn put_edge(edges: &mut [u32], at: usize, a: usize, b: usize) -> usize
     requires { RoomAt (three (a, b, distance a b)) at edges.old × (a < max_items) × (b < max_items) }
     ensures { Added (three (a, b, distance a b)) at edges.old result edges.new }
 {
-    edges[at] = narrow_32(a);
-    edges[at + 1] = narrow_32(b);
+    edges[at] = a as u32;
+    edges[at + 1] = b as u32;
     edges[at + 2] = distance_of(a, b);
     at + 3
 }
@@ -40,43 +36,32 @@ fn put_row(edges: &mut [u32], at: usize, marks: &[u8; MAX_ITEMS], n: usize, a: u
     ensures { Added (row_of marks.now n a) at edges.old result edges.new }
 {
     let mut end = at;
-    let mut b: usize = 0;
-    while b < n {
+    for b in 0..n {
         if marks[b] == 1 {
             end = put_edge(edges, end, a, b);
         }
-        b += 1;
     }
     end
 }
 
 // Puts the edges from item a.
-fn put_from(
-    plan: &[u64],
-    items: &[u16; MAX_ITEMS],
-    n: usize,
-    a: usize,
-    edges: &mut [u32],
-    at: usize,
-) -> usize
-    requires { Graph plan.now items.now n × (a < n) × RoomAt (numbers_from (body_of plan.now) a) at edges.old }
-    ensures { Added (numbers_from (body_of plan.now) a) at edges.old result edges.new }
+fn put_from(items: &Items, a: usize, edges: &mut [u32], at: usize) -> usize
+    requires { (a < length items.now.codes.now) × RoomAt (numbers_from (body_of items.now.plan.now) a) at edges.old }
+    ensures { Added (numbers_from (body_of items.now.plan.now) a) at edges.old result edges.new }
 {
     let mut marks = [0u8; MAX_ITEMS];
-    mark_row(plan, items, n, a, false, &mut marks);
-    put_row(edges, at, &marks, n, a)
+    mark_row(items, a, false, &mut marks);
+    put_row(edges, at, &marks, items.codes.len(), a)
 }
 
 // Puts all edges; answers how many numbers they are.
-pub fn put_edges(plan: &[u64], items: &[u16; MAX_ITEMS], n: usize, edges: &mut [u32]) -> usize
-    requires { Graph plan.now items.now n × (edge_words ≤ length edges.old) }
-    ensures { Put (collect n (numbers_from (body_of plan.now))) edges.old result edges.new }
+pub fn put_edges(items: &Items, edges: &mut [u32]) -> usize
+    requires { edge_words ≤ length edges.old }
+    ensures { Put (collect (length items.now.codes.now) (numbers_from (body_of items.now.plan.now))) edges.old result edges.new }
 {
-    let mut at: usize = 0;
-    let mut a: usize = 0;
-    while a < n {
-        at = put_from(plan, items, n, a, edges, at);
-        a += 1;
+    let mut at = 0;
+    for a in 0..items.codes.len() {
+        at = put_from(items, a, edges, at);
     }
     at
 }

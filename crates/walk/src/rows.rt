@@ -7,13 +7,13 @@ ghost use Rattle.edges.specs.Touch.{touch, touch_on};
 ghost use Rattle.plan.specs.Limits.{max_regions};
 ghost use Rattle.plan.specs.Sizes.{max_items};
 ghost use Rattle.plan.specs.Layout.{writes, body_of};
-ghost use Rattle.graph.specs.Table.{Graph, Task};
+ghost use Rattle.graph.specs.Table.{Task};
 ghost use Rattle.walk.specs.Rows.{Places, any_open, Touches, Meets, Passes, item_passed, CopyMarks, Marks, partner_of};
 
+use graph::items::Items;
 use plan::code::{RECEIVE, SEND, TASK, item_kind, item_rank, item_subject};
-use plan::layout::{access_at, access_region, accesses_of, writes_region};
-use plan::numbers::{narrow_8, wide_8, wide_16};
-use plan::state::MAX_ITEMS;
+use plan::layout::{access_region, put_if, writes_region};
+use plan::words::Plan;
 
 // A place for each region.
 const PLACES: usize = 128;
@@ -25,94 +25,73 @@ fn touch_of(access: u64) -> u64
     if writes_region(access) { 2 } else { 1 }
 }
 
-// The byte goes to `at` where `yes` holds.
-fn put_if(bytes: &mut [u8], at: usize, byte: u8, yes: bool)
-    requires { at < length bytes.old }
-    ensures { bytes.new ≡ cond yes (set bytes.old at byte) bytes.old }
-{
-    if yes {
-        bytes[at] = byte;
-    }
-}
-
 // The places are met at region g alone.
 fn meet_place(places: &mut [u8], g: usize, touch: u64) -> bool
     requires { Places places.old × (g < max_regions) × (touch ≤ 2) }
     ensures { Meets (λ h. cond (eqb h g) touch 0) places.old places.new result }
 {
-    let own = wide_8(places[g]);
+    let own = u64::from(places[g]);
     put_if(places, g, 0, touch == 2);
     3 <= own + touch
 }
 
 // The places are met by task i.
-fn meet_task(plan: &[u64], i: usize, places: &mut [u8]) -> bool
+fn meet_task(plan: &Plan, i: usize, places: &mut [u8]) -> bool
     requires { Task plan.now i × Places places.old }
     ensures { Meets (touch (body_of plan.now) (task i)) places.old places.new result }
 {
-    let count = accesses_of(plan, i);
+    let count = plan.access_count(i);
     let mut hit = false;
-    let mut a: usize = 0;
-    while a < count {
-        let access = access_at(plan, i, a);
+    for a in 0..count {
+        let access = plan.access(i, a);
         let met = meet_place(places, access_region(access), touch_of(access));
-        hit = hit | met;
-        a += 1;
+        hit |= met;
     }
     hit
 }
 
 // The places of rank q are met by item b.
-fn meet_item(
-    plan: &[u64],
-    items: &[u16; MAX_ITEMS],
-    n: usize,
-    b: usize,
-    q: u64,
-    places: &mut [u8],
-) -> bool
-    requires { Graph plan.now items.now n × (b < n) × Places places.old }
-    ensures { Meets (touch_on (body_of plan.now) q b) places.old places.new result }
+fn meet_item(items: &Items, b: usize, q: u64, places: &mut [u8]) -> bool
+    requires { (b < length items.now.codes.now) × Places places.old }
+    ensures { Meets (touch_on (body_of items.now.plan.now) q b) places.old places.new result }
 {
-    let code = wide_16(items[b]);
+    let code = u64::from(items.codes[b]);
     if item_rank(code) != q {
         return false;
     }
     let kind = item_kind(code);
     let subject = item_subject(code);
     if kind == TASK {
-        meet_task(plan, subject, places)
+        meet_task(items.plan, subject, places)
     } else {
         meet_place(places, subject, kind)
     }
 }
 
 // Notes the places that task i touches.
-fn note_task(plan: &[u64], i: usize, places: &mut [u8])
+fn note_task(plan: &Plan, i: usize, places: &mut [u8])
     requires { Task plan.now i × (places.old ≡ replicate max_regions 0) }
     ensures { Touches (touch (body_of plan.now) (task i)) places.new }
 {
-    let count = accesses_of(plan, i);
-    let mut a: usize = 0;
-    while a < count {
-        let access = access_at(plan, i, a);
-        places[access_region(access)] = narrow_8(touch_of(access));
-        a += 1;
+    let count = plan.access_count(i);
+    for a in 0..count {
+        let access = plan.access(i, a);
+        places[access_region(access)] = touch_of(access) as u8;
     }
 }
 
 // Notes the places that item a touches.
-fn note_item(plan: &[u64], items: &[u16; MAX_ITEMS], n: usize, a: usize, places: &mut [u8])
-    requires { Graph plan.now items.now n × (a < n) × (places.old ≡ replicate max_regions 0) }
-    ensures { Touches (touch (body_of plan.now) (item_at (body_of plan.now) a)) places.new }
+fn note_item(items: &Items, a: usize, places: &mut [u8])
+    requires { (a < length items.now.codes.now) × (places.old ≡ replicate max_regions 0) }
+    ensures { Touches (touch (body_of items.now.plan.now) (item_at (body_of items.now.plan.now) a)) places.new }
 {
-    let code = wide_16(items[a]);
+    let code = u64::from(items.codes[a]);
     let kind = item_kind(code);
     let subject = item_subject(code);
     if kind == TASK {
-        note_task(plan, subject, places);
+        note_task(items.plan, subject, places);
     } else {
-        places[subject] = narrow_8(kind);
+        places[subject] = kind as u8;
     }
 }
 
@@ -133,10 +112,8 @@ fn any_open(places: &[u8]) -> bool
     ensures { result ≡ any_open places.now }
 {
     let mut found = false;
-    let mut g: usize = 0;
-    while g < PLACES {
-        found = found | (places[g] != 0);
-        g += 1;
+    for &touch in places {
+        found |= touch != 0;
     }
     found
 }
@@ -154,9 +131,7 @@ fn may_be_open(hit: bool, places: &[u8]) -> bool
 
 // Passes `count` items from lo on, as long as a place is open.
 fn mark_run(
-    plan: &[u64],
-    items: &[u16; MAX_ITEMS],
-    n: usize,
+    items: &Items,
     q: u64,
     lo: usize,
     count: usize,
@@ -164,62 +139,37 @@ fn mark_run(
     places: &mut [u8],
     marks: &mut [u8],
 )
-    requires { Graph plan.now items.now n × (lo + count ≤ n) × Places places.old × (length marks.old ≡ max_items) }
-    ensures { Passes n (touch_on (body_of plan.now) q) lo count back places.old places.new marks.old marks.new }
+    requires { (lo + count ≤ length items.now.codes.now) × Places places.old × (length marks.old ≡ max_items) }
+    ensures { Passes (length items.now.codes.now) (touch_on (body_of items.now.plan.now) q) lo count back places.old places.new marks.old marks.new }
 {
     let mut left = any_open(places);
-    let mut k: usize = 0;
-    while (k < count) & left {
+    for k in 0..count {
+        if !left {
+            return;
+        }
         let b = item_passed(lo, count, k, back);
-        let hit = meet_item(plan, items, n, b, q, places);
+        let hit = meet_item(items, b, q, places);
         put_if(marks, b, 1, hit);
         left = may_be_open(hit, places);
-        k += 1;
     }
 }
 
 // Marks the items with an edge by a copy from item a, or if `back` to it.
-fn mark_copies(
-    plan: &[u64],
-    items: &[u16; MAX_ITEMS],
-    n: usize,
-    a: usize,
-    back: bool,
-    marks: &mut [u8],
-)
-    requires { Graph plan.now items.now n × (a < n) × (length marks.old ≡ max_items) }
-    ensures { CopyMarks (body_of plan.now) n a back marks.old marks.new }
+fn mark_copies(items: &Items, a: usize, back: bool, marks: &mut [u8])
+    requires { (a < length items.now.codes.now) × (length marks.old ≡ max_items) }
+    ensures { CopyMarks (body_of items.now.plan.now) (length items.now.codes.now) a back marks.old marks.new }
 {
-    let q = item_rank(wide_16(items[a]));
+    let n = items.codes.len();
+    let q = item_rank(u64::from(items.codes[a]));
     let mut places = [0u8; PLACES];
-    note_item(plan, items, n, a, &mut places);
+    note_item(items, a, &mut places);
     if back {
-        mark_run(plan, items, n, q, 0, a, true, &mut places, marks);
-        mark_run(
-            plan,
-            items,
-            n,
-            q,
-            a + 1,
-            n - (a + 1),
-            true,
-            &mut places,
-            marks,
-        );
+        mark_run(items, q, 0, a, true, &mut places, marks);
+        mark_run(items, q, a + 1, n - (a + 1), true, &mut places, marks);
         return;
     }
-    mark_run(
-        plan,
-        items,
-        n,
-        q,
-        a + 1,
-        n - (a + 1),
-        false,
-        &mut places,
-        marks,
-    );
-    mark_run(plan, items, n, q, 0, a, false, &mut places, marks);
+    mark_run(items, q, a + 1, n - (a + 1), false, &mut places, marks);
+    mark_run(items, q, 0, a, false, &mut places, marks);
 }
 
 // The other item of a transfer, for a task the item itself.
@@ -238,35 +188,21 @@ fn partner_of(kind: u64, a: usize) -> usize
 
 // Marks the items with an edge from item a, or if `back` to it: itself, the other item of its
 // transfer, and those by copies.
-pub fn mark_row(
-    plan: &[u64],
-    items: &[u16; MAX_ITEMS],
-    n: usize,
-    a: usize,
-    back: bool,
-    marks: &mut [u8],
-)
-    requires { Graph plan.now items.now n × (a < n) × (marks.old ≡ replicate max_items 0) }
-    ensures { Marks (body_of plan.now) n a back marks.new }
+pub fn mark_row(items: &Items, a: usize, back: bool, marks: &mut [u8])
+    requires { (a < length items.now.codes.now) × (marks.old ≡ replicate max_items 0) }
+    ensures { Marks (body_of items.now.plan.now) (length items.now.codes.now) a back marks.new }
 {
-    mark_copies(plan, items, n, a, back, marks);
+    mark_copies(items, a, back, marks);
     marks[a] = 1;
-    let kind = item_kind(wide_16(items[a]));
+    let kind = item_kind(u64::from(items.codes[a]));
     marks[partner_of(kind, a)] = 1;
 }
 
 // Marks the items with an edge from item a, and those with an edge to it.
-pub fn mark_edges(
-    plan: &[u64],
-    items: &[u16; MAX_ITEMS],
-    n: usize,
-    a: usize,
-    from: &mut [u8],
-    into: &mut [u8],
-)
-    requires { Graph plan.now items.now n × (a < n) × (from.old ≡ replicate max_items 0) × (into.old ≡ replicate max_items 0) }
-    ensures { Marks (body_of plan.now) n a false from.new × Marks (body_of plan.now) n a true into.new }
+pub fn mark_edges(items: &Items, a: usize, from: &mut [u8], into: &mut [u8])
+    requires { (a < length items.now.codes.now) × (from.old ≡ replicate max_items 0) × (into.old ≡ replicate max_items 0) }
+    ensures { Marks (body_of items.now.plan.now) (length items.now.codes.now) a false from.new × Marks (body_of items.now.plan.now) (length items.now.codes.now) a true into.new }
 {
-    mark_row(plan, items, n, a, false, from);
-    mark_row(plan, items, n, a, true, into);
+    mark_row(items, a, false, from);
+    mark_row(items, a, true, into);
 }

@@ -7,11 +7,8 @@ ghost use Rattle.reading.specs.Written.{text_of};
 ghost use Rattle.writer.specs.Parts.{three, access_line, access_lines, start_line, task_lines, start_lines, all_tasks};
 
 use output::digit_count;
-use plan::layout::{
-    MODE, access_at, accesses_of, constant_of, kernel_of, passes_of, rank_of, ranks_of, regions_of,
-    starting_of, tasks_of,
-};
-use plan::numbers::{as_index, as_word};
+use plan::layout::MODE;
+use plan::words::Plan;
 
 // Three fields: their tabs and the line feed are 4 bytes.
 fn three_length(x: u64, y: u64, z: u64) -> usize
@@ -21,26 +18,26 @@ fn three_length(x: u64, y: u64, z: u64) -> usize
 }
 
 // The `start` line of region g: its word, two tabs and the line feed are 8 bytes.
-fn start_length(words: &[u64], g: usize) -> usize
-    requires { (plan_words ≤ length words.now) × (g < max_regions) }
-    ensures { (result ≡ length (start_line words.now g)) × (result ≤ 48) }
+fn start_length(plan: &Plan, g: usize) -> usize
+    requires { g < max_regions }
+    ensures { (result ≡ length (start_line plan.now g)) × (result ≤ 48) }
 {
-    let value = starting_of(words, g);
+    let value = plan.start(g);
     if value == 0 {
         return 0;
     }
-    8 + digit_count(as_word(g)) + digit_count(value)
+    8 + digit_count(g as u64) + digit_count(value)
 }
 
 // All `start` lines.
-fn starts_length(words: &[u64]) -> usize
-    requires { (plan_words ≤ length words.now) × (regions_of words.now ≤ max_regions) }
-    ensures { (result ≡ length (start_lines words.now)) × (result ≤ 6144) }
+fn starts_length(plan: &Plan) -> usize
+    requires { regions_of plan.now ≤ max_regions }
+    ensures { (result ≡ length (start_lines plan.now)) × (result ≤ 6144) }
 {
-    let regions = as_index(regions_of(words));
+    let regions = plan.regions() as usize;
     let mut sum: usize = 0;
     for g in 0..regions {
-        sum += start_length(words, g);
+        sum += start_length(plan, g);
     }
     sum
 }
@@ -60,49 +57,45 @@ fn access_length(access: u64) -> usize
 }
 
 // The accesses of task i.
-fn accesses_length(words: &[u64], i: usize) -> usize
-    requires { (plan_words ≤ length words.now) × (i < max_tasks) × (accesses_of words.now i ≤ max_accesses) }
-    ensures { (result ≡ length (access_lines words.now i)) × (result ≤ 216) }
+fn accesses_length(plan: &Plan, i: usize) -> usize
+    requires { (i < max_tasks) × (accesses_of plan.now i ≤ max_accesses) }
+    ensures { (result ≡ length (access_lines plan.now i)) × (result ≤ 216) }
 {
-    let accesses = accesses_of(words, i);
+    let accesses = plan.access_count(i);
     let mut sum: usize = 0;
     for a in 0..accesses {
-        sum += access_length(access_at(words, i, a));
+        sum += access_length(plan.access(i, a));
     }
     sum
 }
 
 // The lines of task i: the words of `begin` and `end` and the line feed of the latter are 9 bytes.
-fn task_length(words: &[u64], i: usize) -> usize
-    requires { (plan_words ≤ length words.now) × (i < max_tasks) × (accesses_of words.now i ≤ max_accesses) }
-    ensures { (result ≡ length (task_lines words.now i)) × (result ≤ 289) }
+fn task_length(plan: &Plan, i: usize) -> usize
+    requires { (i < max_tasks) × (accesses_of plan.now i ≤ max_accesses) }
+    ensures { (result ≡ length (task_lines plan.now i)) × (result ≤ 289) }
 {
-    let numbers = three_length(
-        rank_of(words, i),
-        kernel_of(words, i),
-        constant_of(words, i),
-    );
-    9 + numbers + accesses_length(words, i)
+    let numbers = three_length(plan.rank(i), plan.kernel(i), plan.constant(i));
+    9 + numbers + accesses_length(plan, i)
 }
 
 // The lines of all tasks.
-fn tasks_length(words: &[u64]) -> usize
-    requires { (length words.now ≡ plan_words) × (in_form words.now ≡ true) }
-    ensures { (result ≡ length (all_tasks words.now)) × (result ≤ 36992) }
+fn tasks_length(plan: &Plan) -> usize
+    requires { (length plan.now ≡ plan_words) × (in_form plan.now ≡ true) }
+    ensures { (result ≡ length (all_tasks plan.now)) × (result ≤ 36992) }
 {
-    let tasks = tasks_of(words);
+    let tasks = plan.tasks();
     let mut sum: usize = 0;
     for i in 0..tasks {
-        sum += task_length(words, i);
+        sum += task_length(plan, i);
     }
     sum
 }
 
 // The text of a plan in form.
-pub fn text_length(words: &[u64]) -> usize
-    requires { (length words.now ≡ plan_words) × (in_form words.now ≡ true) }
-    ensures { result ≡ length (text_of words.now) }
+pub fn text_length(plan: &Plan) -> usize
+    requires { (length plan.now ≡ plan_words) × (in_form plan.now ≡ true) }
+    ensures { result ≡ length (text_of plan.now) }
 {
-    let numbers = three_length(passes_of(words), ranks_of(words), regions_of(words));
-    4 + numbers + starts_length(words) + tasks_length(words)
+    let numbers = three_length(plan.passes(), plan.ranks(), plan.regions());
+    4 + numbers + starts_length(plan) + tasks_length(plan)
 }

@@ -9,11 +9,8 @@ ghost use Rattle.reading.specs.Written.{text_of};
 ghost use Rattle.writer.specs.Parts.{three, mode_text, access_line, access_lines, loop_line, start_line, begin_line, task_lines, start_lines, all_tasks};
 
 use output::{put_bytes, put_field, put_last};
-use plan::layout::{
-    MODE, access_at, accesses_of, constant_of, kernel_of, passes_of, rank_of, ranks_of, regions_of,
-    starting_of, tasks_of,
-};
-use plan::numbers::{as_index, as_word};
+use plan::layout::MODE;
+use plan::words::Plan;
 
 // A line of a word and three numbers.
 fn put_three(out: &mut [u8], at: usize, word: &[u8], x: u64, y: u64, z: u64) -> usize
@@ -27,39 +24,39 @@ fn put_three(out: &mut [u8], at: usize, word: &[u8], x: u64, y: u64, z: u64) -> 
 }
 
 // The `loop` line, at the start of the slice.
-fn put_loop(out: &mut [u8], words: &[u64]) -> usize
-    requires { (plan_words ≤ length words.now) × RoomAt (loop_line words.now) 0 out.old }
-    ensures { Added (loop_line words.now) 0 out.old result out.new }
+fn put_loop(out: &mut [u8], plan: &Plan) -> usize
+    requires { RoomAt (loop_line plan.now) 0 out.old }
+    ensures { Added (loop_line plan.now) 0 out.old result out.new }
 {
-    let passes = passes_of(words);
-    let ranks = ranks_of(words);
-    put_three(out, 0, b"loop", passes, ranks, regions_of(words))
+    let passes = plan.passes();
+    let ranks = plan.ranks();
+    put_three(out, 0, b"loop", passes, ranks, plan.regions())
 }
 
 // The `start` line of region g, unless it starts at 0.
-fn put_start(out: &mut [u8], at: usize, words: &[u64], g: usize) -> usize
-    requires { (plan_words ≤ length words.now) × (g < max_regions) × RoomAt (start_line words.now g) at out.old }
-    ensures { Added (start_line words.now g) at out.old result out.new }
+fn put_start(out: &mut [u8], at: usize, plan: &Plan, g: usize) -> usize
+    requires { (g < max_regions) × RoomAt (start_line plan.now g) at out.old }
+    ensures { Added (start_line plan.now g) at out.old result out.new }
 {
-    let value = starting_of(words, g);
+    let value = plan.start(g);
     if value == 0 {
         return at;
     }
     let head = put_bytes(out, at, b"start");
-    let region = put_field(out, head, b'\t', as_word(g));
+    let region = put_field(out, head, b'\t', g as u64);
     put_last(out, region, b'\t', value)
 }
 
 // All `start` lines, regions rising.
-fn put_starts(out: &mut [u8], at: usize, words: &[u64]) -> usize
-    requires { (plan_words ≤ length words.now) × (regions_of words.now ≤ max_regions)
-        × RoomAt (start_lines words.now) at out.old }
-    ensures { Added (start_lines words.now) at out.old result out.new }
+fn put_starts(out: &mut [u8], at: usize, plan: &Plan) -> usize
+    requires { (regions_of plan.now ≤ max_regions)
+        × RoomAt (start_lines plan.now) at out.old }
+    ensures { Added (start_lines plan.now) at out.old result out.new }
 {
-    let regions = as_index(regions_of(words));
+    let regions = plan.regions() as usize;
     let mut end = at;
     for g in 0..regions {
-        end = put_start(out, end, words, g);
+        end = put_start(out, end, plan, g);
     }
     end
 }
@@ -88,61 +85,61 @@ fn put_access(out: &mut [u8], at: usize, access: u64) -> usize
 }
 
 // The accesses of task i, in record order.
-fn put_accesses(out: &mut [u8], at: usize, words: &[u64], i: usize) -> usize
-    requires { (plan_words ≤ length words.now) × (i < max_tasks) × (accesses_of words.now i ≤ max_accesses)
-        × RoomAt (access_lines words.now i) at out.old }
-    ensures { Added (access_lines words.now i) at out.old result out.new }
+fn put_accesses(out: &mut [u8], at: usize, plan: &Plan, i: usize) -> usize
+    requires { (i < max_tasks) × (accesses_of plan.now i ≤ max_accesses)
+        × RoomAt (access_lines plan.now i) at out.old }
+    ensures { Added (access_lines plan.now i) at out.old result out.new }
 {
-    let accesses = accesses_of(words, i);
+    let accesses = plan.access_count(i);
     let mut end = at;
     for a in 0..accesses {
-        end = put_access(out, end, access_at(words, i, a));
+        end = put_access(out, end, plan.access(i, a));
     }
     end
 }
 
 // The `begin` line of task i.
-fn put_begin(out: &mut [u8], at: usize, words: &[u64], i: usize) -> usize
-    requires { (plan_words ≤ length words.now) × (i < max_tasks) × RoomAt (begin_line words.now i) at out.old }
-    ensures { Added (begin_line words.now i) at out.old result out.new }
+fn put_begin(out: &mut [u8], at: usize, plan: &Plan, i: usize) -> usize
+    requires { (i < max_tasks) × RoomAt (begin_line plan.now i) at out.old }
+    ensures { Added (begin_line plan.now i) at out.old result out.new }
 {
-    let rank = rank_of(words, i);
-    let kernel = kernel_of(words, i);
-    put_three(out, at, b"begin", rank, kernel, constant_of(words, i))
+    let rank = plan.rank(i);
+    let kernel = plan.kernel(i);
+    put_three(out, at, b"begin", rank, kernel, plan.constant(i))
 }
 
 // The lines of task i.
-fn put_task(out: &mut [u8], at: usize, words: &[u64], i: usize) -> usize
-    requires { (plan_words ≤ length words.now) × (i < max_tasks) × (accesses_of words.now i ≤ max_accesses)
-        × RoomAt (task_lines words.now i) at out.old }
-    ensures { Added (task_lines words.now i) at out.old result out.new }
+fn put_task(out: &mut [u8], at: usize, plan: &Plan, i: usize) -> usize
+    requires { (i < max_tasks) × (accesses_of plan.now i ≤ max_accesses)
+        × RoomAt (task_lines plan.now i) at out.old }
+    ensures { Added (task_lines plan.now i) at out.old result out.new }
 {
-    let head = put_begin(out, at, words, i);
-    let accesses = put_accesses(out, head, words, i);
+    let head = put_begin(out, at, plan, i);
+    let accesses = put_accesses(out, head, plan, i);
     put_bytes(out, accesses, b"end\n")
 }
 
 // The lines of all tasks, in order.
-fn put_tasks(out: &mut [u8], at: usize, words: &[u64]) -> usize
-    requires { (length words.now ≡ plan_words) × (in_form words.now ≡ true)
-        × RoomAt (all_tasks words.now) at out.old }
-    ensures { Added (all_tasks words.now) at out.old result out.new }
+fn put_tasks(out: &mut [u8], at: usize, plan: &Plan) -> usize
+    requires { (length plan.now ≡ plan_words) × (in_form plan.now ≡ true)
+        × RoomAt (all_tasks plan.now) at out.old }
+    ensures { Added (all_tasks plan.now) at out.old result out.new }
 {
-    let tasks = tasks_of(words);
+    let tasks = plan.tasks();
     let mut end = at;
     for i in 0..tasks {
-        end = put_task(out, end, words, i);
+        end = put_task(out, end, plan, i);
     }
     end
 }
 
 // The text of a plan in form.
-pub fn put_text(out: &mut [u8], words: &[u64]) -> usize
-    requires { (length words.now ≡ plan_words) × (in_form words.now ≡ true)
-        × Room (text_of words.now) out.old }
-    ensures { Put (text_of words.now) out.old result out.new }
+pub fn put_text(out: &mut [u8], plan: &Plan) -> usize
+    requires { (length plan.now ≡ plan_words) × (in_form plan.now ≡ true)
+        × Room (text_of plan.now) out.old }
+    ensures { Put (text_of plan.now) out.old result out.new }
 {
-    let head = put_loop(out, words);
-    let starts = put_starts(out, head, words);
-    put_tasks(out, starts, words)
+    let head = put_loop(out, plan);
+    let starts = put_starts(out, head, plan);
+    put_tasks(out, starts, plan)
 }

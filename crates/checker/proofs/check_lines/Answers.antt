@@ -1,15 +1,21 @@
 use Prim.Native.Nat.{◌+◌, ◌≤◌}
-use mathlib.Core.Path.{refl, sym, ◌∙◌}
+use mathlib.Core.Path.{◌≡◌, refl, sym, ◌∙◌}
+use mathlib.Core.Bool.{Bool, true, false, cond}
+use mir.Val.{bool_byte}
 use native.Mathlib.Omega.{arith}
 use borrow.Author.Rules.{rules}
 use lib.ListN.{length}
 use lib.Seq.{length-take-le}
 use Rattle.text.proofs.LineLaws.{line_found}
-use Rattle.graph.proofs.Lookup.{codes_few}
+use Rattle.plan.proofs.Refusals.{number_above}
 use Rattle.steps.specs.Calls.{lent}
 use Rattle.checker.proofs.Lining.{lines_unended, lines_stop, lines_more, lines_done}
 use Rattle.checker.proofs.check_lines.Goals as goal
 use Rattle.checker.proofs.check_lines.Goals.{Else-size-eq0}
+
+as_number : (b : Bool) → bool_byte b ≡ cond b 1 0
+as_number true = refl
+as_number false = refl
 
 -- a line lies within the journal
 inside : (c : Else-size-eq0) →
@@ -28,10 +34,10 @@ returns-then-size-eq0 c =
 pub slice_bounds-entry_of-length : goal.slice_bounds-entry_of-length
 slice_bounds-entry_of-length c = sym (length-take-le _ _ (omega arith))
 
-pub returns-then-refusal-ne0 : goal.returns-then-refusal-ne0
-returns-then-refusal-ne0 c =
-    lines_stop c.args.plan.now c.args.tables.now c.args.journal.now _ (lent c.loop-at.counts c.loop-at.values) c.loop-at.at c.loop-at.held c.loop-at.invariant.0 _ c.line_from-line.ensures (inside (goal.at.returns-then-refusal-ne0 c).Else-size-eq0).0 _ _ _ c.entry_of.ensures c.check_entry-refusal.ensures c.if-refusal-ne0.true _
-    c.refused_behind-then-refusal-ne0.ensures
+pub returns-in-Err : goal.returns-in-Err
+returns-in-Err c =
+    lines_stop c.args.plan.now c.args.tables.now c.args.journal.now _ (lent c.loop-at.counts c.loop-at.values) c.loop-at.at c.loop-at.held c.loop-at.invariant.0 _ c.line_from-line.ensures (inside (goal.at.returns-in-Err c).Else-size-eq0).0 _ _ _ c.entry_of-entry.ensures c.in-Err.ensures (number_above _) _
+    c.refused_behind-in-Err.ensures
 
 pub overflow_add-at : goal.overflow_add-at
 overflow_add-at c = omega (arith, (inside (goal.at.overflow_add-at c).Else-size-eq0).1)
@@ -42,20 +48,16 @@ loop-at-smaller c = omega (arith, inside (goal.at.loop-at-smaller c).Else-size-e
 pub loop-at-preserved : goal.loop-at-preserved
 loop-at-preserved c =
     let k = inside (goal.at.loop-at-preserved c).Else-size-eq0 in
-    let r = c.check_entry-refusal.ensures.room in (
-      lines_more c.args.plan.now c.args.tables.now c.args.journal.now _ _ _ _ c.loop-at.invariant.0 _ c.line_from-line.ensures k.0 _ _ _ c.entry_of.ensures
-          c.check_entry-refusal.ensures c.if-refusal-ne0.false,
+    let r = c.in_default.ensures.room in (
+      lines_more c.args.plan.now c.args.tables.now c.args.journal.now _ _ _ _ c.loop-at.invariant.0 _ c.line_from-line.ensures k.0 _ _ _ c.entry_of-entry.ensures
+          c.in_default.ensures refl,
       k.1,
       omega (arith, k.0, c.loop-at.invariant.2),
       r.counts ∙ c.loop-at.invariant.3,
       r.values ∙ c.loop-at.invariant.4,
     )
 
-pub are_complete-requires : goal.are_complete-requires
-are_complete-requires c =
-    (omega (arith, c.requires.0.long_counts, c.loop-at.invariant.3), search rules, c.requires.1.most, codes_few _ _ _ c.requires.1)
-
 pub returns : goal.returns
 returns c =
-    lines_done c.args.plan.now c.args.tables.now c.args.journal.now _ _ _ _ _ c.loop-at.invariant.0 c.loop-at-test.false _ _ c.requires.1 _
-    c.passes_of.ensures _ c.are_complete.ensures _ c.one_if.ensures.0
+    lines_done c.args.plan.now c.args.tables.now c.args.journal.now _ _ _ _ _ c.loop-at.invariant.0 c.loop-at-test.false _ _ _ c.args.items.now.drawn c.requires.1
+    _ c.is_complete.ensures _ (c.from.ensures ∙ as_number _)

@@ -1,18 +1,12 @@
-use borrow.Author.Tests.{not-true, not-false}
-use Rattle.entries.proofs.Numbers.{last_bad, last_other, last_good}
+use Rattle.entries.proofs.Numbers.{last_bad, last_other}
 use Rattle.entries.proofs.last_at.Goals as goal
 
-pub returns-then-not-number : goal.returns-then-not-number
-returns-then-not-number c =
+pub returns-in_err-value : goal.returns-in_err-value
+returns-in_err-value c =
     let a = c.args in
-    last_bad a.s.now a.at _ _ _ c.number_at-number.ensures (not-true _ c.if-not-number.true)
+    rw c.from_residual.ensures (last_bad a.s.now a.at c.in_err-value.ensures)
 
-pub returns-then-number-s : goal.returns-then-number-s
-returns-then-number-s c =
+pub returns-then-end-s : goal.returns-then-end-s
+returns-then-end-s c =
     let a = c.args in
-    last_other a.s.now a.at _ _ _ c.number_at-number.ensures (not-false _ c.if-not-number.false) c.if-number-s.true
-
-pub returns : goal.returns
-returns c =
-    let a = c.args in
-    last_good a.s.now a.at _ _ _ c.number_at-number.ensures (not-false _ c.if-not-number.false) c.if-number-s.false
+    last_other a.s.now a.at _ _ c.in_ok-value.ensures c.if-end-s.true

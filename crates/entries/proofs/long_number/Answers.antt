@@ -1,8 +1,6 @@
-use Rattle.std.proofs.Common.{◌≡◌, true, get_or, drop, sym, ◌∙◌}
+use Rattle.std.proofs.Common.{◌≡◌, true, drop, sym, ◌∙◌}
 use borrow.Author.Tests.{not-true, not-false}
 use Rattle.entries.specs.Scan.{head_digit}
-use Rattle.entries.proofs.Heads.{digit_true}
-use Rattle.entries.proofs.Runs.{digit_of}
 use Rattle.entries.proofs.Numbers.{long_whole, long_more, long_large, long_value}
 use Rattle.entries.proofs.long_number.Goals as goal
 use Rattle.entries.proofs.long_number.Goals.{Else-not-digit_at}
@@ -21,24 +19,14 @@ returns-then-digit_at c =
     let a = c.args in
     long_more a.s.now a.at a.most a.end c.requires (more (goal.at.returns-then-digit_at c).Else-not-digit_at) (sym c.digit_at-2.ensures ∙ c.if-digit_at.true)
 
-pub bounds-s-end : goal.bounds-s-end
-bounds-s-end c =
-    let a = c.args in
-    (digit_true a.s.now a.end (more (goal.at.bounds-s-end c).Else-not-digit_at)).0
-
-pub overflow_sub-s : goal.overflow_sub-s
-overflow_sub-s c =
-    let a = c.args in
-    (digit_of (get_or a.s.now a.end 0) (digit_true a.s.now a.end (more (goal.at.overflow_sub-s c).Else-not-digit_at)).1).low
-
 pub returns-then-last-most : goal.returns-then-last-most
 returns-then-last-most c =
     let a = c.args in
-    long_large a.s.now a.at a.most a.end c.requires (more (goal.at.returns-then-last-most c).Else-not-digit_at) c.wide-last.result c.wide-last.ensures
+    long_large a.s.now a.at a.most a.end c.requires (more (goal.at.returns-then-last-most c).Else-not-digit_at) c.from-last.result c.from-last.ensures
     (sym c.digit_at-2.ensures ∙ c.if-digit_at.false) c.if-last-most.true
 
 pub returns : goal.returns
 returns c =
     let a = c.args in
-    long_value a.s.now a.at a.most a.end c.requires (more (goal.at.returns c).Else-not-digit_at) c.wide-last.result c.wide-last.ensures
+    long_value a.s.now a.at a.most a.end c.requires (more (goal.at.returns c).Else-not-digit_at) c.from-last.result c.from-last.ensures
     (sym c.digit_at-2.ensures ∙ c.if-digit_at.false) c.if-last-most.false

@@ -1,18 +1,13 @@
-use borrow.Author.Tests.{not-true, not-false}
 use Rattle.entries.proofs.Steps.{start_no_item, start_no_word, start_said}
 use Rattle.entries.proofs.start_of.Goals as goal
 
-pub returns-then-not-item : goal.returns-then-not-item
-returns-then-not-item c =
-    start_no_item c.args.line.now c.requires _ _ _ c.field_at-item.ensures (not-true _ c.if-not-item.true)
+pub returns-in_err-item : goal.returns-in_err-item
+returns-in_err-item c =
+    rw c.from_residual.ensures (start_no_item c.args.line.now c.requires c.in_err-item.ensures)
 
-pub last_at-word-requires : goal.last_at-word-requires
-last_at-word-requires c = c.field_at-item.ensures.within (not-false _ c.if-not-item.false)
-
-pub returns-then-not-word : goal.returns-then-not-word
-returns-then-not-word c =
-    start_no_word c.args.line.now c.requires _ _ _ c.field_at-item.ensures _ _ c.last_at-word.ensures (not-true _ c.if-not-word.true)
+pub returns-in_err-word : goal.returns-in_err-word
+returns-in_err-word c =
+    rw c.from_residual-in_err-word.ensures (start_no_word c.args.line.now c.requires _ _ c.in_ok-item.ensures c.in_err-word.ensures)
 
 pub returns : goal.returns
-returns c =
-    start_said c.args.line.now c.requires _ _ _ c.field_at-item.ensures _ _ c.last_at-word.ensures (not-false _ c.if-not-item.false) (not-false _ c.if-not-word.false)
+returns c = start_said c.args.line.now c.requires _ _ c.in_ok-item.ensures _ c.in_ok-word.ensures

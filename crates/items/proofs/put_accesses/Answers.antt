@@ -1,5 +1,5 @@
 use borrow.Author.Rules.{rules}
-use Rattle.finite.proofs.Puts.{collect_none, collect_more, collect_done}
+use Rattle.finite.proofs.Puts.{collect_none, collect_more}
 use Rattle.items.proofs.Tasks.{accesses_fit}
 use Rattle.items.proofs.put_accesses.Goals as goal
 
@@ -11,6 +11,3 @@ put_access-at-requires c = search (rules, accesses_fit)
 
 pub loop-a-preserved : goal.loop-a-preserved
 loop-a-preserved c = search (rules, collect_more)
-
-pub returns : goal.returns
-returns c = search (rules, collect_done)

@@ -1,24 +1,12 @@
-use Prim.Native.Nat.{◌<◌}
 use native.Mathlib.Omega.{arith}
 use borrow.Author.Rules.{rules}
 use Rattle.finite.proofs.Bits.{cleared_less}
-use Rattle.finite.proofs.Puts.{left_all, left_none}
+use Rattle.finite.proofs.Puts.{left_none}
 use Rattle.items.proofs.Masks.{mask_none, lowest_rank, mask_fits, mask_more}
 use Rattle.items.proofs.put_mask.Goals as goal
 
-pub loop-rest-init : goal.loop-rest-init
-loop-rest-init c = search (rules, left_all)
-
-pub overflow_shr-wrapped : goal.overflow_shr-wrapped
-overflow_shr-wrapped c = let l : c.wide_32-q.result < 16 = search (rules, lowest_rank) in omega arith
-
 pub put_pair-at-requires : goal.put_pair-at-requires
 put_pair-at-requires c = search (rules, lowest_rank, mask_fits)
-
-pub loop-rest-smaller : goal.loop-rest-smaller
-loop-rest-smaller c =
-    let turn = c.loop-rest in
-    cleared_less turn.rest (search rules)
 
 pub loop-rest-preserved : goal.loop-rest-preserved
 loop-rest-preserved c =

@@ -14,28 +14,28 @@ put_bytes-head-requires c = record { fits = omega (arith, c.requires.1.fits) }
 pub put_field-from-requires : goal.put_field-from-requires
 unfolding edge_line_at edge_line
 put_field-from-requires c =
-    room_same (ap field (sym c.wide_32.ensures))
+    room_same (ap field (sym c.from.ensures))
     (room_first _ _ (room_rest c.put_bytes-head.ensures c.requires.1))
 
 pub put_field-to-requires : goal.put_field-to-requires
 unfolding edge_line_at edge_line
 put_field-to-requires c =
-    room_same (ap field (sym c.wide_32-2.ensures))
-    (room_first _ _ (room_rest (added_same (ap field c.wide_32.ensures) c.put_field-from.ensures)
+    room_same (ap field (sym c.from-2.ensures))
+    (room_first _ _ (room_rest (added_same (ap field c.from.ensures) c.put_field-from.ensures)
     (room_rest c.put_bytes-head.ensures c.requires.1)))
 
 pub put_last-requires : goal.put_last-requires
 unfolding edge_line_at edge_line
 put_last-requires c =
-    room_same (ap (λ (d : ℕ). field d ++ (10 ∷ [])) (sym c.wide_32-3.ensures))
-    (room_rest (added_same (ap field c.wide_32-2.ensures) c.put_field-to.ensures)
-    (room_rest (added_same (ap field c.wide_32.ensures) c.put_field-from.ensures)
+    room_same (ap (λ (d : ℕ). field d ++ (10 ∷ [])) (sym c.from-3.ensures))
+    (room_rest (added_same (ap field c.from-2.ensures) c.put_field-to.ensures)
+    (room_rest (added_same (ap field c.from.ensures) c.put_field-from.ensures)
     (room_rest c.put_bytes-head.ensures c.requires.1)))
 
 pub returns : goal.returns
 unfolding edge_line_at edge_line
 returns c =
     added_append c.put_bytes-head.ensures
-    (added_append (added_same (ap field c.wide_32.ensures) c.put_field-from.ensures)
-    (added_append (added_same (ap field c.wide_32-2.ensures) c.put_field-to.ensures)
-    (added_same (ap (λ (d : ℕ). field d ++ (10 ∷ [])) c.wide_32-3.ensures) c.put_last.ensures)))
+    (added_append (added_same (ap field c.from.ensures) c.put_field-from.ensures)
+    (added_append (added_same (ap field c.from-2.ensures) c.put_field-to.ensures)
+    (added_same (ap (λ (d : ℕ). field d ++ (10 ∷ [])) c.from-3.ensures) c.put_last.ensures)))

@@ -20,13 +20,13 @@ put_field-number-requires c =
 pub put_kind-kind-requires : goal.put_kind-kind-requires
 unfolding item_line_at item_line
 put_kind-kind-requires c =
-    room_same (ap kind_field (sym (c.item_kind.ensures ∙ ap code_kind c.wide_16-code.ensures.0)))
+    room_same (ap kind_field (sym (c.item_kind.ensures ∙ ap code_kind c.from-code.ensures)))
     (room_first _ _ (room_rest c.put_field-number.ensures (room_rest c.put_bytes-head.ensures c.requires.1)))
 
 pub put_last-requires : goal.put_last-requires
 unfolding item_line_at item_line
 put_last-requires c =
-    let e = c.wide_16-code.ensures.0 in
+    let e = c.from-code.ensures in
     room_same (ap (λ (q : ℕ). field q ++ (10 ∷ [])) (sym (c.item_rank.ensures ∙ ap code_rank e)))
     (room_rest (added_same (ap kind_field (c.item_kind.ensures ∙ ap code_kind e)) c.put_kind-kind.ensures)
     (room_rest c.put_field-number.ensures (room_rest c.put_bytes-head.ensures c.requires.1)))
@@ -34,7 +34,7 @@ put_last-requires c =
 pub returns : goal.returns
 unfolding item_line_at item_line
 returns c =
-    let e = c.wide_16-code.ensures.0 in
+    let e = c.from-code.ensures in
     added_append c.put_bytes-head.ensures
     (added_append c.put_field-number.ensures
     (added_append (added_same (ap kind_field (c.item_kind.ensures ∙ ap code_kind e)) c.put_kind-kind.ensures)

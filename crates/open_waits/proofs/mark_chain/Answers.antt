@@ -13,15 +13,15 @@ mark_item-sum-requires c = search rules
 
 pub loop-left-smaller : goal.loop-left-smaller
 loop-left-smaller c =
-    omega (arith, c.index_16-left.ensures, c.requires.1 (c.loop-left.left - 1), c.loop-left-test.true)
+    omega (arith, c.from-left.ensures, c.requires.1 (c.loop-left.left - 1), c.loop-left-test.true)
 
 pub loop-left-preserved : goal.loop-left-preserved
 loop-left-preserved c =
     let next = c.requires.1 (c.loop-left.left - 1) in
     let is = c.mark_item-sum.ensures in (
-      omega (arith, c.index_16-left.ensures, next, c.loop-left.invariant.0),
+      omega (arith, c.from-left.ensures, next, c.loop-left.invariant.0),
       is.0,
-      left_more c.args.nexts.now c.args.mark c.args.seen.now c.args.link c.loop-left.seen c.mark_item-sum.new.seen _ _ _ _ c.loop-left.invariant.2 c.loop-left-test.true refl next refl is.1 c.index_16-left.ensures,
+      left_more c.args.nexts.now c.args.mark c.args.seen.now c.args.link c.loop-left.seen c.mark_item-sum.new.seen _ _ _ _ c.loop-left.invariant.2 c.loop-left-test.true refl next refl is.1 c.from-left.ensures,
     )
 
 pub returns : goal.returns

@@ -1,4 +1,3 @@
-use Prim.Native.Nat.{◌-◌, ◌≤◌}
 use mathlib.Core.Path.{◌≡◌}
 use lib.ListN.{length}
 use Rattle.finite.specs.Update.{replaced}
@@ -11,8 +10,5 @@ use Rattle.open_waits.proofs.open_numbers.Given as goal
 
 abbrev pub invariant-loop-a : goal.invariant-loop-a
 invariant-loop-a l =
-    (l.a ≤ l.n) × (length l.counts ≡ length l.initial.counts) × (l.counts ≡ replaced (within first_unmet l.a) (open_count (body_of l.plan)) l.initial.counts)
-    × ItemsPassed (body_of l.plan) l.a l.heads l.writers l.nexts l.seen
-
-abbrev pub decreases-loop-a : goal.decreases-loop-a
-decreases-loop-a l = l.n - l.a
+    (length l.counts ≡ length l.initial.counts) × (l.counts ≡ replaced (within first_unmet l.a) (open_count (body_of l.items.plan.now)) l.initial.counts)
+    × ItemsPassed (body_of l.items.plan.now) l.a l.heads l.writers l.nexts l.seen

@@ -10,7 +10,7 @@ pub loop-k-preserved : goal.loop-k-preserved
 loop-k-preserved c =
     let P = c.requires in (
       search rules,
-      task_more c.args.plan.now _ _ _ _ c.args.seen.now _ _ _ _ _ _ _ _ _ _ _ _ _ _ _ _ P.0 (search rules) c.access_at-access.ensures
+      task_more c.args.plan.now _ _ _ _ c.args.seen.now _ _ _ _ _ _ _ _ _ _ _ _ _ _ _ _ P.0 (search rules) c.access-access.ensures
           c.access_region.ensures c.writes_region.ensures P.1 P.2 refl refl c.loop-k.invariant.1 c.touch_place-sum.ensures,
     )
 

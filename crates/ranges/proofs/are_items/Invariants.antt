@@ -7,8 +7,6 @@ use Rattle.finite.specs.Below.{all_below}
 use Rattle.prepared.specs.Tables.{first_target}
 use Rattle.ranges.proofs.are_items.Given as goal
 
-abbrev pub invariant-loop-k : goal.invariant-loop-k
-invariant-loop-k l = (l.k ≤ l.to - l.from) × (true ≡ all_below l.k (λ j. ltb (get_or l.tables (first_target + (l.from + j)) 0) l.items))
-
-abbrev pub decreases-loop-k : goal.decreases-loop-k
-decreases-loop-k l = l.to - l.from - l.k
+abbrev pub invariant-loop-j : goal.invariant-loop-j
+invariant-loop-j l =
+    (l.j - l.from ≤ l.to - l.from) × (true ≡ all_below (l.j - l.from) (λ k. ltb (get_or l.tables (first_target + (l.from + k)) 0) l.items))

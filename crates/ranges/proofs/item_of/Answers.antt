@@ -4,4 +4,4 @@ use Rattle.ranges.proofs.item_of.Goals as goal
 pub returns : goal.returns
 unfolding item_in
 returns c =
-    rw (c.own_of.ensures, c.passes_of-passes.ensures, c.wide_16.ensures.0)
+    rw (c.own_of.ensures, c.passes-passes.ensures, c.from.ensures)

@@ -1,24 +1,12 @@
-use Prim.Native.Nat.{ℕ}
-use mathlib.Core.Path.{ap, refl, ◌∙◌}
-use borrow.Author.Rules.{rules}
-use lib.ListN.{replicate}
-use Rattle.reader.proofs.Ends.{tells_long, walk_formed, walk_tells}
+use Rattle.std.proofs.Common.{◌≡◌, ℕ, arith, length, replicate, ap, ◌∙◌}
+use Rattle.plan.specs.Layout.{plan_words}
+use Rattle.reader.proofs.Ends.{tells_refused}
 use Rattle.reader.proofs.read_into.Goals as goal
 
-pub returns-then-text-gt-MAX_BYTES : goal.returns-then-text-gt-MAX_BYTES
-returns-then-text-gt-MAX_BYTES c = search (rules, tells_long)
+pub read_words-requires : goal.read_words-requires
+read_words-requires c = c.fill.ensures.after (λ y h. h) ∙ ap (λ (k : ℕ). replicate k 0) c.requires
 
-pub read_lines-walk-requires : goal.read_lines-walk-requires
-read_lines-walk-requires c =
-    (search rules, refl, c.clear.ensures ∙ ap (λ (k : ℕ). replicate k 0) c.requires)
-
-pub at_end-requires : goal.at_end-requires
-at_end-requires c =
-    let l = c.read_lines-walk in
-    (search rules, c.in_form-fits.ensures, walk_formed _ _ _ l.ensures _ _ c.in-Done.is)
-
-pub returns-in-Refused : goal.returns-in-Refused
-returns-in-Refused c = search (rules, walk_tells)
-
-pub returns-in-Done : goal.returns-in-Done
-returns-in-Done c = search (rules, walk_tells)
+pub returns-in-Err : goal.returns-in-Err
+returns-in-Err c =
+    let n : length c.read_words.new.words ≡ plan_words = omega (arith, c.read_words.auto.words, c.fill.ensures.len, c.requires) in
+    tells_refused c.args.text.now _ _ _ _ c.in-Err.ensures c.from.ensures (c.fill-in-Err.ensures.after (λ y h. h) ∙ ap (λ (k : ℕ). replicate k 0) n)

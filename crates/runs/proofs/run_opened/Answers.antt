@@ -3,4 +3,4 @@ use Rattle.runs.proofs.run_opened.Goals as goal
 
 pub take_turns-requires : goal.take_turns-requires
 take_turns-requires c =
-    (c.requires.0, tables_made _ _ _ c.requires.0 _ _ c.make_tables.ensures, c.requires.1)
+    (tables_made _ _ _ c.args.items.now.drawn _ _ c.make_tables.ensures, c.requires)

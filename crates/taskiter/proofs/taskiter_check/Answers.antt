@@ -1,48 +1,39 @@
 use mathlib.Core.Path.{sym, ◌∙◌}
-use borrow.Author.Tests.{leb-true}
-use lib.Dec.{leb}
-use lib.ListN.{length}
+use native.Mathlib.Omega.{arith}
 use lib.Seq.{length-take-le}
-use Rattle.finite.proofs.Tests.{and-true}
-use Rattle.plan.specs.Sizes.{count_words, value_words}
-use Rattle.taskiter.proofs.Exported.{graph_room, door_long}
-use Rattle.taskiter.proofs.Checking.{check_short, check_refused, opened_room, opening_passed, check_made}
+use Rattle.steps.proofs.Answering.{open_short}
+use Rattle.plan.specs.declared.refusal.Refusal.TheVariants.{TooShort}
+use Rattle.taskiter.proofs.Exported.{graph_room}
+use Rattle.taskiter.proofs.Checking.{check_refused, opened_room, check_made}
 use Rattle.taskiter.proofs.taskiter_check.Goals as goal
 
 pub returns-then-is_short : goal.returns-then-is_short
 returns-then-is_short c =
-    check_short c.args.plan.now c.args.counts.now c.args.values.now c.args.journal.now (sym c.is_short.ensures ∙ c.if-is_short.true) _ c.no_number.ensures
+    rw c.number.ensures
+    (check_refused c.args.plan.now c.args.counts.now c.args.values.now c.args.journal.now TooShort _ _
+    (open_short c.args.plan.now c.args.counts.now c.args.values.now (sym c.is_short.ensures ∙ c.if-is_short.true)))
 
-pub returns-then-entry-ne0 : goal.returns-then-entry-ne0
-returns-then-entry-ne0 c =
-    check_refused c.args.plan.now c.args.counts.now c.args.values.now c.args.journal.now _ _ _ c.enter_plan-entry.ensures c.if-entry-ne0.true _ c.no_number-then-entry-ne0.ensures
+pub slice_bounds-new-end : goal.slice_bounds-new-end
+slice_bounds-new-end c =
+    sym (length-take-le _ c.args.plan.now (graph_room c.args.plan.now _ _ c.in-Ok.ensures.1))
 
-pub slice_bounds-open_clear-end : goal.slice_bounds-open_clear-end
-slice_bounds-open_clear-end c =
-    let P = c.args.plan.now in
-    sym (length-take-le _ P (graph_room P _ _ (c.enter_plan-entry.ensures.clear c.if-entry-ne0.false)))
+pub new-words-requires : goal.new-words-requires
+new-words-requires c =
+    omega (arith, length-take-le _ c.args.plan.now (graph_room c.args.plan.now _ _ c.in-Ok.ensures.1))
 
-pub open_clear-requires : goal.open_clear-requires
-open_clear-requires c =
-    let C = c.args.counts.now in
-    let W = c.args.values.now in
-    let B = c.enter_plan-entry.ensures in
-    let z = c.if-entry-ne0.false in
-    let l = and-true (leb count_words (length C)) (leb value_words (length W)) (door_long c.args.plan.now _ _ _ _ B z) in
-    (B.clear z, leb-true count_words (length C) l.0, leb-true value_words (length W) l.1)
+pub new-items-requires : goal.new-items-requires
+new-items-requires c = let G = c.in-Ok.ensures.1 in (rw c.new-words.ensures G, omega (arith, G.most))
 
 pub check_clear-requires : goal.check_clear-requires
 check_clear-requires c =
-    let P = c.args.plan.now in
-    let B = c.enter_plan-entry.ensures in
-    let z = c.if-entry-ne0.false in
-    let room = graph_room P _ _ (B.clear z) in
-    let l = opened_room P c.args.counts.now c.args.values.now c.args.journal.now _ _ (opening_passed P c.args.counts.now c.args.values.now c.args.journal.now room _ _ c.open_clear.ensures) in
-    (room, B.clear z, l.0, l.1)
+    let l = opened_room c.args.plan.now c.args.counts.now c.args.values.now c.args.journal.now _ _ c.in-Ok.ensures.0 in
+    (rw c.new.ensures (c.new-items.ensures.0 ∙ c.new-words.ensures), l.0, l.1)
 
-pub returns : goal.returns
-returns c =
-    let P = c.args.plan.now in
-    let room = graph_room P _ _ (c.enter_plan-entry.ensures.clear c.if-entry-ne0.false) in
-    check_made P c.args.counts.now c.args.values.now c.args.journal.now _ _
-    (opening_passed P c.args.counts.now c.args.values.now c.args.journal.now room _ _ c.open_clear.ensures) _ c.check_clear.ensures
+pub returns-in-Ok : goal.returns-in-Ok
+returns-in-Ok c =
+    check_made c.args.plan.now c.args.counts.now c.args.values.now c.args.journal.now _ _ c.in-Ok.ensures.0 _ (rw c.new.ensures at c.check_clear.ensures)
+
+pub returns-in-Err : goal.returns-in-Err
+returns-in-Err c =
+    rw c.number-in-Err.ensures
+    (check_refused c.args.plan.now c.args.counts.now c.args.values.now c.args.journal.now _ _ _ c.in-Err.ensures.0)

@@ -41,4 +41,4 @@ returns c =
     let l = c.loop-k in
     played_done c.args.plan.now c.args.counts.now c.args.values.now c.args.calls.now c.args.answers.now
     (play_long c.args.plan.now c.args.counts.now c.args.values.now c.args.calls.now c.args.answers.now _
-    c.is_short.ensures c.if-is_short-answers.false) _ _ _ l.k l.invariant.0 c.loop-k-test.false
+    c.is_short.ensures c.if-is_short-answers.false) _ _ _ l.k l.invariant.0 (omega arith)

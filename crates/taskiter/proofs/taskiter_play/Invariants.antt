@@ -1,4 +1,4 @@
-use Prim.Native.Nat.{◌*◌, ◌-◌, ◌≤◌}
+use Prim.Native.Nat.{◌*◌, ◌≤◌}
 use mathlib.Core.Path.{◌≡◌}
 use lib.ListN.{length}
 use Rattle.steps.specs.Calls.{lent}
@@ -9,6 +9,3 @@ abbrev pub invariant-loop-k : goal.invariant-loop-k
 invariant-loop-k l =
     Rest l.plan (lent l.initial.counts l.initial.values) l.calls l.initial.answers (lent l.counts l.values) l.answers l.k × (2 * length l.calls ≤ length l.answers) × (length l.counts ≡ length l.initial.counts) ×
     (length l.values ≡ length l.initial.values) × (length l.answers ≡ length l.initial.answers)
-
-abbrev pub decreases-loop-k : goal.decreases-loop-k
-decreases-loop-k l = length l.calls - l.k

@@ -16,4 +16,4 @@ loop-i-preserved c =
 pub returns : goal.returns
 returns c =
     let a = c.args in
-    omega (arith, before_end (is a.b) a.s.now c.loop-i.i c.loop-i-test.false)
+    omega (arith, before_end (is a.b) a.s.now c.loop-i.i (search rules))

@@ -6,6 +6,3 @@ pub slice_bounds-result-end : goal.slice_bounds-result-end
 slice_bounds-result-end c =
     let t = c.args.t.now in
     sym (length-take-le _ t (rw c.find-n.ensures (before_le 9 t)))
-
-pub returns : goal.returns
-returns c = rw c.find-n.ensures

@@ -1,4 +1,4 @@
-use Rattle.std.proofs.Common.{◌+◌, sym, arith, length-take-le}
+use Rattle.std.proofs.Common.{sym}
 use Rattle.text.proofs.LineLaws.{ended_last, ended_take}
 use Rattle.text.proofs.line_from.Goals as goal
 
@@ -6,10 +6,6 @@ pub returns-then-t-n : goal.returns-then-t-n
 returns-then-t-n c =
     let t = c.behind-t.result.now in
     rw (← c.behind-t.ensures) (sym (ended_last t c.find-n.result c.find-n.ensures c.if-t-n.true))
-
-pub slice_bounds-result-end-2 : goal.slice_bounds-result-end-2
-slice_bounds-result-end-2 c =
-    sym (length-take-le (c.find-n.result + 1) c.behind-t.result.now (omega arith))
 
 pub returns : goal.returns
 returns c =

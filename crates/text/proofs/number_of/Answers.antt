@@ -3,7 +3,7 @@ use borrow.Author.Tests.{not-true, not-false}
 use Rattle.text.specs.Numbers.{well_formed, decimal_after}
 use Rattle.text.proofs.NumberLaws.{well_formed_digits, well_formed_length, digit_at, digits_take, decimal_last, number_malformed, number_value, number_large}
 use Rattle.text.proofs.number_of.Goals as goal
-use Rattle.text.proofs.number_of.Goals.{After-wide-last, Else-not-well_formed}
+use Rattle.text.proofs.number_of.Goals.{After-from-last, Else-not-well_formed}
 
 formed : (c : Else-not-well_formed) → well_formed c.args.f.now ≡ true
 formed c = sym c.well_formed-2.ensures ∙ not-false _ c.if-not-well_formed.false-raw
@@ -18,9 +18,6 @@ decimal-requires c = (omega arith, well_formed_digits _ (formed (goal.at.decimal
 pub returns-then-f-lt20 : goal.returns-then-f-lt20
 returns-then-f-lt20 c = sym (number_value _ _ (formed (goal.at.returns-then-f-lt20 c).Else-not-well_formed) c.decimal.ensures (search rules))
 
-pub slice_bounds-decimal-end : goal.slice_bounds-decimal-end
-slice_bounds-decimal-end c = sym (length-take-le 19 c.args.f.now (omega arith))
-
 pub decimal-most-requires : goal.decimal-most-requires
 decimal-most-requires c =
     let f = c.args.f.now in
@@ -31,14 +28,14 @@ overflow_sub-f c =
     let f = c.args.f.now in
     omega (arith, digit_at f 19 (omega arith) (well_formed_digits f (formed (goal.at.overflow_sub-f c).Else-not-well_formed)))
 
-value : (c : After-wide-last) → decimal_after 0 c.args.f.now ≡ c.decimal-most.result * 10 + c.wide-last.result
+value : (c : After-from-last) → decimal_after 0 c.args.f.now ≡ c.decimal-most.result * 10 + c.from-last.result
 value c =
     let f = c.args.f.now in
     let n : length f ≡ 19 + 1 = omega (arith, well_formed_length f (sym c.well_formed-2.ensures ∙ c.if-not-well_formed.false)) in
-    rw (decimal_last 19 f n, c.decimal-most.ensures, c.wide-last.ensures)
+    rw (decimal_last 19 f n, c.decimal-most.ensures, c.from-last.ensures)
 
 pub returns-then-last-most : goal.returns-then-last-most
-returns-then-last-most c = sym (number_large _ (formed (goal.at.returns-then-last-most c).Else-not-well_formed) (omega (arith, value (goal.at.returns-then-last-most c).After-wide-last)))
+returns-then-last-most c = sym (number_large _ (formed (goal.at.returns-then-last-most c).Else-not-well_formed) (omega (arith, value (goal.at.returns-then-last-most c).After-from-last)))
 
 pub returns : goal.returns
-returns c = sym (number_value _ _ (formed (goal.at.returns c).Else-not-well_formed) (sym (value (goal.at.returns c).After-wide-last)) (search rules))
+returns c = sym (number_value _ _ (formed (goal.at.returns c).Else-not-well_formed) (sym (value (goal.at.returns c).After-from-last)) (search rules))

@@ -5,9 +5,6 @@ use Rattle.text.proofs.same.Goals as goal
 pub returns-then-a-b : goal.returns-then-a-b
 returns-then-a-b c = cc (alike_length c.args.a.now c.args.b.now (omega arith))
 
-pub returns-then-b-a : goal.returns-then-b-a
-returns-then-b-a c = cc (alike_length c.args.a.now c.args.b.now (omega arith))
-
 pub returns-then-a-i : goal.returns-then-a-i
 returns-then-a-i c =
     let ar = c.args in
@@ -16,7 +13,7 @@ returns-then-a-i c =
 pub loop-i-preserved : goal.loop-i-preserved
 loop-i-preserved c =
     let ar = c.args in
-    (search rules, cc (alike_step ar.a.now ar.b.now c.loop-i.i (search rules) (search rules) c.if-a-i.false))
+    cc (alike_step ar.a.now ar.b.now c.loop-i.i (search rules) (search rules) c.if-a-i.false)
 
 pub returns : goal.returns
 returns c =

@@ -1,4 +1,4 @@
-use Prim.Native.Nat.{◌≤◌, ◌-◌}
+use Prim.Native.Nat.{◌≤◌}
 use mathlib.Core.Path.{◌≡◌}
 use lib.ListN.{length}
 use Rattle.plan.specs.Limits.{max_tasks}
@@ -6,7 +6,4 @@ use Rattle.transfers.specs.Search.{Rows}
 use Rattle.transfers.proofs.find_transfers.Given as goal
 
 abbrev pub invariant-loop-t : goal.invariant-loop-t
-invariant-loop-t l = (l.tasks ≤ max_tasks) × (l.t ≤ l.tasks) × (length l.table ≡ max_tasks) × Rows l.plan l.t l.table
-
-abbrev pub decreases-loop-t : goal.decreases-loop-t
-decreases-loop-t l = l.tasks - l.t
+invariant-loop-t l = (l.tasks ≤ max_tasks) × (length l.table ≡ max_tasks) × Rows l.plan l.t l.table

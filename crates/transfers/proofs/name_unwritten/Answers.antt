@@ -1,5 +1,5 @@
 use borrow.Author.Rules.{rules}
-use Rattle.transfers.proofs.Last.{no_writers_none, no_writers_more, no_writers_done}
+use Rattle.transfers.proofs.Last.{no_writers_none, no_writers_more}
 use Rattle.transfers.proofs.name_unwritten.Goals as goal
 
 pub loop-g-init : goal.loop-g-init
@@ -7,6 +7,3 @@ loop-g-init c = search (rules, no_writers_none)
 
 pub loop-g-preserved : goal.loop-g-preserved
 loop-g-preserved c = search (rules, no_writers_more)
-
-pub returns : goal.returns
-returns c = search (rules, no_writers_done)

@@ -1,4 +1,3 @@
-use Prim.Native.Nat.{◌≤◌, ◌-◌}
 use mathlib.Core.Path.{◌≡◌}
 use lib.ListN.{length}
 use Rattle.plan.specs.Limits.{max_regions}
@@ -6,7 +5,4 @@ use Rattle.transfers.specs.Search.{no_writers}
 use Rattle.transfers.proofs.name_unwritten.Given as goal
 
 abbrev pub invariant-loop-g : goal.invariant-loop-g
-invariant-loop-g l = (l.g ≤ l.regions) × (length l.last ≡ max_regions) × (l.last ≡ no_writers l.g)
-
-abbrev pub decreases-loop-g : goal.decreases-loop-g
-decreases-loop-g l = l.regions - l.g
+invariant-loop-g l = (length l.last ≡ max_regions) × (l.last ≡ no_writers l.g)

@@ -1,4 +1,3 @@
-use Prim.Native.Nat.{◌-◌, ◌≤◌}
 use mathlib.Core.Path.{◌≡◌}
 use lib.ListN.{length}
 use Rattle.body.specs.Places.{system}
@@ -11,8 +10,5 @@ use Rattle.unmet.proofs.lower_waits.Given as goal
 
 abbrev pub invariant-loop-a : goal.invariant-loop-a
 invariant-loop-a l =
-    (l.a ≤ l.n) × (length l.counts ≡ length l.initial.counts)
-    × (l.counts ≡ lowered_to (system (body_of l.plan)) (edge_test (body_of l.plan)) first_unmet (done_by l.initial.counts) l.b l.a l.initial.counts)
-
-abbrev pub decreases-loop-a : goal.decreases-loop-a
-decreases-loop-a l = l.n - l.a
+    (length l.counts ≡ length l.initial.counts)
+    × (l.counts ≡ lowered_to (system (body_of l.items.plan.now)) (edge_test (body_of l.items.plan.now)) first_unmet (done_by l.initial.counts) l.b l.a l.initial.counts)

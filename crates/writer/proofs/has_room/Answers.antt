@@ -12,6 +12,3 @@ returns-then-room-ge-TEXT_BYTES c =
     let w = c.args.words.now in
     let known : Words w = record { size = c.requires.0; fits = λ i. omega (arith, (c.shared_slice_known-1.given i).fits) } in
     sym (le-leb (length (text_of w)) c.args.room (omega (arith, text_laws.longest w known c.requires.1, c.if-room-ge-TEXT_BYTES.true)))
-
-pub returns : goal.returns
-returns c = rw c.text_length.ensures

@@ -2,4 +2,4 @@ use Rattle.calls.proofs.Listed.{drawn}
 use Rattle.calls.proofs.drawing.list_edges.Goals as goal
 
 pub returns : goal.returns
-returns c = drawn _ _ _ c.requires.0 _ _ _ c.put_edges.ensures
+returns c = drawn _ _ _ c.args.items.now.drawn _ _ _ c.put_edges.ensures

@@ -3,5 +3,5 @@ use Rattle.calls.proofs.openings.open_clear.Goals as goal
 
 pub returns : goal.returns
 returns c =
-    open_made _ _ _ c.requires.0 c.args.counts.now c.args.values.now c.requires.1 c.requires.2
+    open_made _ _ _ c.args.items.now.drawn c.args.counts.now c.args.values.now c.requires.0 c.requires.1
     _ _ _ c.clear_counts.ensures c.open_numbers.ensures c.open_values.ensures

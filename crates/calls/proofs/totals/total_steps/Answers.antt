@@ -3,28 +3,27 @@ use mathlib.Core.Path.{ap}
 use native.Mathlib.Omega.{arith}
 use borrow.Author.Rules.{rules}
 use Rattle.finite.proofs.Below.{sum_none, sum_more, sum_done}
-use Rattle.graph.proofs.Lookup.{passes_most, codes_few}
+use Rattle.doors.proofs.Counting.{own_most}
 use Rattle.calls.proofs.Behind.{total_is}
 use Rattle.calls.proofs.totals.total_steps.Goals as goal
-
-pub pass_count-passes-requires : goal.pass_count-passes-requires
-pass_count-passes-requires c = let G = c.requires in (omega (arith, G.long), passes_most _ _ _ G)
 
 pub loop-a-init : goal.loop-a-init
 loop-a-init c = search (rules, sum_none)
 
-pub own_passes-own-requires : goal.own_passes-own-requires
-own_passes-own-requires c =
-    codes_few _ _ _ c.requires c.loop-a.a c.loop-a-test.true
+pub overflow_mul-steps : goal.overflow_mul-steps
+overflow_mul-steps c = omega (arith, c.passes.ensures, own_most c.args.items.now.drawn c.loop-a.a)
+
+pub overflow_add-steps : goal.overflow_add-steps
+overflow_add-steps c =
+    let G = c.args.items.now.drawn in
+    omega (arith, c.passes.ensures, own_most G c.loop-a.a, G.most)
 
 pub loop-a-preserved : goal.loop-a-preserved
 loop-a-preserved c = (
-  search rules,
-  search rules,
-  sum_more _ _ _ _ c.loop-a.invariant.2 (ap (λ k. 2 * k) c.own_passes-own.ensures),
+  omega (arith, c.passes.ensures, own_most c.args.items.now.drawn c.loop-a.a),
+  sum_more _ _ _ _ c.loop-a.invariant.1 (ap (λ k. 2 * k) c.passes.ensures),
 )
 
 pub returns : goal.returns
 returns c =
-    let G = c.requires in
-    total_is _ _ _ G _ c.pass_count-passes.ensures.0 _ (sum_done _ _ _ _ c.loop-a.invariant.2 (omega arith) (omega arith))
+    total_is _ _ _ c.args.items.now.drawn _ (sum_done _ _ _ _ c.loop-a.invariant.1 (omega arith) (omega arith))

@@ -1,7 +1,5 @@
-use Prim.Native.Nat.{◌+◌}
 use borrow.Author.Rules.{rules}
 use Rattle.finite.proofs.Below.{all_none, all_done}
-use Rattle.steps.specs.State.{first_finished}
 use Rattle.doors.proofs.Counting.{complete_more}
 use Rattle.doors.proofs.counts.are_complete.Goals as goal
 
@@ -9,15 +7,12 @@ pub loop-a-init : goal.loop-a-init
 loop-a-init c = search (rules, all_none)
 
 pub own_passes-own-requires : goal.own_passes-own-requires
-own_passes-own-requires c =
-    c.requires.3 c.loop-a.a c.loop-a-test.true
+own_passes-own-requires c = c.requires.3 c.loop-a.a c.loop-a-test.true
 
 pub loop-a-preserved : goal.loop-a-preserved
-loop-a-preserved c = (
-  search rules,
-  complete_more c.args.counts.now c.args.table.now c.args.passes c.loop-a.a c.loop-a.missing _ _ (search rules)
-      (c.shared_slice_known-in-loop-a-2-1.given (first_finished + c.loop-a.a)).fits c.loop-a.invariant.1 c.own_passes-own.ensures c.surplus-missing.ensures,
-)
+loop-a-preserved c =
+    complete_more c.args.counts.now c.args.table.now c.args.passes c.loop-a.a c.loop-a.missing _ _ (search rules)
+    (search rules) c.loop-a.invariant c.own_passes-own.ensures c.surplus-missing.ensures
 
 pub returns : goal.returns
 returns c = search (rules, all_done)

@@ -1,4 +1,3 @@
-use Prim.Native.Nat.{◌-◌, ◌≤◌}
 use mathlib.Core.Path.{◌≡◌}
 use mathlib.Core.Bool.{◌&&◌}
 use lib.Dec.{ltb}
@@ -8,7 +7,4 @@ use Rattle.doors.proofs.counts.are_formed.Given as goal
 
 abbrev pub invariant-loop-a : goal.invariant-loop-a
 invariant-loop-a l =
-    (l.a ≤ l.n) × ((ltb l.apart 2 && ltb l.beyond top_bit) ≡ formed_to l.counts l.table l.passes l.a) × (ltb l.above top_bit ≡ numbers_to l.counts l.n l.a)
-
-abbrev pub decreases-loop-a : goal.decreases-loop-a
-decreases-loop-a l = l.n - l.a
+    ((ltb l.apart 2 && ltb l.beyond top_bit) ≡ formed_to l.counts l.table l.passes l.a) × (ltb l.above top_bit ≡ numbers_to l.counts l.n l.a)

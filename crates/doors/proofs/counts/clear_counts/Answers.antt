@@ -11,7 +11,7 @@ pub bounds-counts-a-in-loop-a : goal.bounds-counts-a-in-loop-a
 bounds-counts-a-in-loop-a c = simp length-set (search rules)
 
 pub loop-a-preserved : goal.loop-a-preserved
-loop-a-preserved c = (search rules, simp length-set (search rules), counts_more c.args.counts.now _ c.loop-a.a c.loop-a.invariant.2 (omega arith))
+loop-a-preserved c = (simp length-set (search rules), counts_more c.args.counts.now _ c.loop-a.a c.loop-a.invariant.1 (omega arith))
 
 pub returns : goal.returns
-returns c = counts_done _ _ _ _ c.loop-a.invariant.2 (omega arith) (omega arith)
+returns c = counts_done _ _ _ _ c.loop-a.invariant.1 (omega arith) (omega arith)

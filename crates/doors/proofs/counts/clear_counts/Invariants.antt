@@ -1,4 +1,3 @@
-use Prim.Native.Nat.{◌-◌, ◌≤◌}
 use mathlib.Core.Path.{◌≡◌}
 use lib.ListN.{length}
 use Rattle.finite.specs.Update.{replaced}
@@ -6,7 +5,4 @@ use Rattle.doors.proofs.Counting.{counts_below}
 use Rattle.doors.proofs.counts.clear_counts.Given as goal
 
 abbrev pub invariant-loop-a : goal.invariant-loop-a
-invariant-loop-a l = (l.a ≤ l.n) × (length l.counts ≡ length l.initial.counts) × (l.counts ≡ replaced (counts_below l.a) (λ i. 0) l.initial.counts)
-
-abbrev pub decreases-loop-a : goal.decreases-loop-a
-decreases-loop-a l = l.n - l.a
+invariant-loop-a l = (length l.counts ≡ length l.initial.counts) × (l.counts ≡ replaced (counts_below l.a) (λ i. 0) l.initial.counts)

@@ -1,4 +1,4 @@
-use Prim.Native.Nat.{◌+◌, ◌*◌, ◌-◌, ◌≤◌}
+use Prim.Native.Nat.{◌+◌, ◌*◌, ◌≤◌}
 use mathlib.Core.Path.{◌≡◌}
 use lib.ListN.{length}
 use Rattle.finite.specs.Lists.{mem, tabulate}
@@ -10,6 +10,3 @@ abbrev pub invariant-loop-k : goal.invariant-loop-k
 invariant-loop-k l =
     (l.row ≡ first_write + 9 * l.a) × (l.count ≡ place_count l.tables first_write l.a) × (l.k ≤ l.count) × (length l.values ≡ length l.initial.values)
     × (l.values ≡ replaced (λ x. mem x (tabulate l.k (place_in l.tables first_write l.a))) (λ x. l.word) l.initial.values)
-
-abbrev pub decreases-loop-k : goal.decreases-loop-k
-decreases-loop-k l = l.count - l.k

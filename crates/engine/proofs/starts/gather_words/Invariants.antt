@@ -1,4 +1,4 @@
-use Prim.Native.Nat.{◌+◌, ◌*◌, ◌-◌, ◌≤◌}
+use Prim.Native.Nat.{◌+◌, ◌*◌, ◌≤◌}
 use mathlib.Core.Path.{◌≡◌}
 use lib.ListN.{length, get_or, take}
 use Rattle.finite.specs.Lists.{tabulate}
@@ -10,6 +10,3 @@ abbrev pub invariant-loop-k : goal.invariant-loop-k
 invariant-loop-k l =
     (l.row ≡ first_read + 9 * l.a) × (l.count ≡ place_count l.tables first_read l.a) × (l.k ≤ l.count) × (length l.words ≡ max_accesses)
     × (take l.k l.words ≡ tabulate l.k (λ j. get_or l.values (place_in l.tables first_read l.a j) 0))
-
-abbrev pub decreases-loop-k : goal.decreases-loop-k
-decreases-loop-k l = l.count - l.k

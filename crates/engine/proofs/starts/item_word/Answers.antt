@@ -11,7 +11,7 @@ slice_bounds-word_from-end-2 c =
 
 pub returns : goal.returns
 returns c = (
-  λ C. word_by_lem c.args.plan.now c.args.tables.now C c.args.values.now c.args.a _ _ _ c.wide_16.ensures.0 c.gather_words-count.ensures.0
+  λ C. word_by_lem c.args.plan.now c.args.tables.now C c.args.values.now c.args.a _ _ _ c.from.ensures c.gather_words-count.ensures.0
       c.word_from.ensures,
   c.gather_words-count.ensures.2,
 )

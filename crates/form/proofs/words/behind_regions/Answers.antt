@@ -1,5 +1,4 @@
 use Rattle.std.proofs.Common.{rules}
-use Rattle.finite.proofs.Below.{all_done}
 use Rattle.form.proofs.Rest.{behind_none, behind_more}
 use Rattle.form.proofs.words.behind_regions.Goals as goal
 
@@ -7,8 +6,4 @@ pub loop-g-init : goal.loop-g-init
 loop-g-init c = search (rules, behind_none)
 
 pub loop-g-preserved : goal.loop-g-preserved
-loop-g-preserved c =
-    (search rules, search rules, behind_more _ _ c.loop-g.bits _ c.loop-g.invariant.2 (search rules) (search rules) c.requires.2)
-
-pub returns : goal.returns
-returns c = search (rules, all_done)
+loop-g-preserved c = search (rules, behind_more)

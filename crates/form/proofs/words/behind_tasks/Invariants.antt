@@ -1,4 +1,4 @@
-use Rattle.std.proofs.Common.{◌≡◌, ◌-◌, ◌*◌, ◌≤◌, eqb}
+use Rattle.std.proofs.Common.{◌≡◌, ◌-◌, ◌*◌, eqb}
 use Rattle.finite.specs.Below.{all_below}
 use Rattle.plan.specs.Limits.{max_tasks}
 use Rattle.plan.specs.Layout.{tasks_of, rank_index}
@@ -7,7 +7,4 @@ use Rattle.form.proofs.words.behind_tasks.Given as goal
 
 abbrev pub invariant-loop-k : goal.invariant-loop-k
 invariant-loop-k l =
-    (l.k ≤ l.half) × (l.tasks ≡ tasks_of l.plan) × (l.first ≡ rank_index l.tasks) × (l.half ≡ 6 * (max_tasks - l.tasks)) × (eqb l.bits 0 ≡ all_below l.k (pair_ok l.plan))
-
-abbrev pub decreases-loop-k : goal.decreases-loop-k
-decreases-loop-k l = l.half - l.k
+    (l.tasks ≡ tasks_of l.plan) × (l.first ≡ rank_index l.tasks) × (l.half ≡ 6 * (max_tasks - l.tasks)) × (eqb l.bits 0 ≡ all_below l.k (pair_ok l.plan))

@@ -1,11 +1,8 @@
-use Rattle.std.proofs.Common.{◌≡◌, ◌+◌, ◌-◌, ◌*◌, ◌≤◌}
-use Rattle.plan.specs.Layout.{rank_of, accesses_of}
+use Rattle.std.proofs.Common.{◌≡◌, ◌+◌, ◌*◌, ◌≤◌}
+use Rattle.plan.specs.Layout.{rank_of}
 use Rattle.form.proofs.Naming.{Naming}
 use Rattle.form.proofs.words.name_all.Given as goal
 
 abbrev pub invariant-loop-a : goal.invariant-loop-a
 invariant-loop-a l =
-    (l.a ≤ l.accesses) × (l.accesses ≡ accesses_of l.plan l.i) × (l.base ≡ 256 * (rank_of l.plan l.i + 1)) × (l.own ≡ l.i) × (l.changes ≤ l.a) × Naming l.plan l.i l.a l.changes l.last
-
-abbrev pub decreases-loop-a : goal.decreases-loop-a
-decreases-loop-a l = l.accesses - l.a
+    (l.base ≡ 256 * (rank_of l.plan l.i + 1)) × (l.own ≡ l.i) × (l.changes ≤ l.a) × Naming l.plan l.i l.a l.changes l.last

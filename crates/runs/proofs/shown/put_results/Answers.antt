@@ -1,4 +1,4 @@
-use mathlib.Core.Path.{refl, ◌∙◌}
+use mathlib.Core.Path.{refl}
 use mathlib.Core.List.{[]}
 use native.Mathlib.Omega.{arith}
 use borrow.Author.Rules.{rules}
@@ -12,7 +12,7 @@ use Rattle.runs.proofs.shown.put_results.Goals as goal
 
 pub loop-g-init : goal.loop-g-init
 loop-g-init c =
-    let e = c.as_index-regions.ensures ∙ c.regions_of.ensures in
+    let e = c.regions-regions.ensures in
     (search rules, e, omega (arith, e, (facts c.args.plan.now c.requires.0).regions_most), refl, filled_none _ _)
 
 pub loop-g-preserved : goal.loop-g-preserved

@@ -1,4 +1,4 @@
-use Prim.Native.Nat.{◌-◌, ◌≤◌}
+use Prim.Native.Nat.{◌≤◌}
 use mathlib.Core.Path.{◌≡◌}
 use mathlib.Core.List.{[]}
 use lib.Dec.{ltb}
@@ -13,6 +13,3 @@ use Rattle.runs.proofs.shown.put_results.Given as goal
 abbrev pub invariant-loop-g : goal.invariant-loop-g
 invariant-loop-g l = (l.g ≤ l.regions) × (l.regions ≡ regions_of l.plan) × (l.regions ≤ result_words) × (length l.results ≡ length l.initial.results) ×
     (l.results ≡ replaced (λ i. ltb i l.g) (result_of (body_of l.plan) (state_of [] l.values)) l.initial.results)
-
-abbrev pub decreases-loop-g : goal.decreases-loop-g
-decreases-loop-g l = l.regions - l.g

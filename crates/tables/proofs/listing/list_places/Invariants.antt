@@ -1,4 +1,3 @@
-use Prim.Native.Nat.{◌-◌, ◌≤◌}
 use mathlib.Core.Path.{◌≡◌}
 use lib.ListN.{length}
 use Rattle.plan.specs.Layout.{body_of}
@@ -8,7 +7,4 @@ use Rattle.tables.proofs.listing.list_places.Given as goal
 
 abbrev pub invariant-loop-a : goal.invariant-loop-a
 invariant-loop-a l =
-    (l.a ≤ l.n) × (length l.table ≡ list_words) × (l.table ≡ padded list_words (rows_before (places_of (body_of l.plan) l.write) l.a))
-
-abbrev pub decreases-loop-a : goal.decreases-loop-a
-decreases-loop-a l = l.n - l.a
+    (length l.table ≡ list_words) × (l.table ≡ padded list_words (rows_before (places_of (body_of l.items.plan.now) l.write) l.a))

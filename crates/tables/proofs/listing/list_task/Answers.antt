@@ -12,7 +12,7 @@ pub put_place-at-requires : goal.put_place-at-requires
 put_place-at-requires c =
     let P = c.args.plan.now in (
       room_same
-          (sym (used_at_lem P c.args.write c.args.i c.args.first c.loop-k.k _ _ _ c.access_at-access.ensures c.access_region.ensures.0
+          (sym (used_at_lem P c.args.write c.args.i c.args.first c.loop-k.k _ _ _ c.access-access.ensures c.access_region.ensures.0
           c.uses_region.ensures))
           (used_fits P c.args.write c.args.i c.args.first c.loop-k.k _ _ _ c.loop-k.invariant.1 (search rules) (search rules)),
       search rules,
@@ -24,7 +24,7 @@ loop-k-preserved c =
       search rules,
       collect_more (used_at P c.args.write c.args.i c.args.first) 0 c.loop-k.k _ _ _ _ _ c.loop-k.invariant.1
           (added_same
-          (used_at_lem P c.args.write c.args.i c.args.first c.loop-k.k _ _ _ c.access_at-access.ensures c.access_region.ensures.0
+          (used_at_lem P c.args.write c.args.i c.args.first c.loop-k.k _ _ _ c.access-access.ensures c.access_region.ensures.0
           c.uses_region.ensures)
           c.put_place-at.ensures),
     )

@@ -1,4 +1,3 @@
-use Prim.Native.Nat.{◌-◌}
 use Rattle.finite.specs.Lists.{collect}
 use Rattle.finite.specs.Put.{Added}
 use Rattle.graph.proofs.Accesses.{Passed}
@@ -7,6 +6,3 @@ use Rattle.tables.proofs.listing.list_task.Given as goal
 
 abbrev pub invariant-loop-k : goal.invariant-loop-k
 invariant-loop-k l = Passed l.plan l.i l.count l.k × Added (collect l.k (used_at l.plan l.write l.i l.first)) 0 l.initial.row l.at l.row
-
-abbrev pub decreases-loop-k : goal.decreases-loop-k
-decreases-loop-k l = l.count - l.k

@@ -4,4 +4,4 @@ use Rattle.tables.proofs.listing.put_places.Goals as goal
 
 pub returns : goal.returns
 returns c =
-    rows_added _ _ _ _ _ _ refl c.requires.1 c.list_places.ensures
+    rows_added _ _ _ _ _ _ refl c.requires c.list_places.ensures

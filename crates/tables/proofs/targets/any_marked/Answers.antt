@@ -1,5 +1,5 @@
 use borrow.Author.Rules.{rules}
-use Rattle.finite.proofs.Below.{any_none, any_more, any_done}
+use Rattle.finite.proofs.Below.{any_none, any_more}
 use Rattle.tables.specs.Targets.{is_marked}
 use Rattle.tables.proofs.targets.any_marked.Goals as goal
 
@@ -9,6 +9,3 @@ loop-k-init c = search (rules, any_none)
 pub loop-k-preserved : goal.loop-k-preserved
 unfolding is_marked
 loop-k-preserved c = search (rules, any_more)
-
-pub returns : goal.returns
-returns c = search (rules, any_done)

@@ -1,4 +1,5 @@
-use mathlib.Core.Path.{◌≡◌, ◌∙◌}
+use Prim.Native.Nat.{◌≤◌}
+use mathlib.Core.Path.{◌≡◌, refl, ◌∙◌}
 use native.Mathlib.Omega.{arith}
 use borrow.Author.Rules.{rules}
 use lib.ListN.{length, length-set}
@@ -12,50 +13,49 @@ use Rattle.tables.proofs.targets.list_targets.Goals as goal
 pub loop-a-init : goal.loop-a-init
 loop-a-init c = search (rules, collect_none, tabulate_none, sources_none)
 
-pub narrow_16-requires : goal.narrow_16-requires
-narrow_16-requires c =
-    omega (arith, c.as_word.ensures, targets_few _ _ _ c.requires.0 _ c.requires.1 _ _ _ c.loop-a.invariant.1 (search rules))
+pub overflow_cast-starts : goal.overflow_cast-starts
+overflow_cast-starts c =
+    omega (arith, targets_few _ _ _ c.args.items.now.drawn _ c.requires.0 _ _ _ c.loop-a.invariant.0 (search rules))
 
 pub put_from-at-requires : goal.put_from-at-requires
 put_from-at-requires c =
-    let G = c.requires.0 in (
-      G,
+    let G = c.args.items.now.drawn in (
       search rules,
-      next_fits _ _ _ G _ c.requires.1 _ _ _ c.loop-a.invariant.1 (search rules),
-      sources_countable _ _ _ _ c.loop-a.invariant.4 (omega (arith, c.loop-a.invariant.0, G.most)),
+      next_fits _ _ _ G _ c.requires.0 _ _ _ c.loop-a.invariant.0 (search rules),
+      sources_countable _ _ _ _ c.loop-a.invariant.3 (omega (arith, c.loop-a-test.true, G.most)),
     )
 
 pub loop-a-preserved : goal.loop-a-preserved
 loop-a-preserved c =
     let l = c.loop-a in
-    let B = body_of c.args.plan.now in
+    let B = body_of c.args.items.now.plan.now in
     let row = c.put_from-at.ensures in
-    let v = start_at_lem _ _ _ c.requires.0 _ c.requires.1 _ _ _ l.invariant.1 _ (c.narrow_16.ensures ∙ c.as_word.ensures) in (
-      search rules,
-      collect_more (targets_of B) 0 l.a _ _ _ _ _ l.invariant.1 row.put,
+    let v = start_at_lem _ _ _ c.args.items.now.drawn _ c.requires.0 _ _ _ l.invariant.0 _ refl in (
+      collect_more (targets_of B) 0 l.a _ _ _ _ _ l.invariant.0 row.put,
       simp length-set (search rules),
-      tabulate_more (λ b. length (targets_before B b)) l.a _ l.starts l.invariant.3 (search rules) v,
-      sources_more B _ l.a _ _ l.invariant.4 row.counted,
+      tabulate_more (λ b. length (targets_before B b)) l.a _ l.starts l.invariant.2 (search rules) v,
+      sources_more B _ l.a _ _ l.invariant.3 row.counted,
     )
 
-pub narrow_16-requires-2 : goal.narrow_16-requires-2
-narrow_16-requires-2 c =
-    omega (arith, c.as_word-2.ensures, targets_few _ _ _ c.requires.0 _ c.requires.1 _ _ _ c.loop-a.invariant.1 (search rules))
+pub overflow_cast-starts-2 : goal.overflow_cast-starts-2
+overflow_cast-starts-2 c =
+    omega (arith, targets_few _ _ _ c.args.items.now.drawn _ c.requires.0 _ _ _ c.loop-a.invariant.0 (search rules))
 
 pub returns : goal.returns
 returns c =
     let l = c.loop-a in
-    let B = body_of c.args.plan.now in
-    let G = c.requires.0 in
-    let e : l.a ≡ c.args.n = omega (arith, l.invariant.0, c.loop-a-test.false) in
-    let v = start_at_lem _ _ _ G _ c.requires.1 _ _ _ l.invariant.1 _ (c.narrow_16-2.ensures ∙ c.as_word-2.ensures) in
+    let B = body_of c.args.items.now.plan.now in
+    let G = c.args.items.now.drawn in
+    let m : l.a ≤ length c.args.items.now.codes.now = search rules in
+    let e : l.a ≡ length c.args.items.now.codes.now = omega (arith, c.loop-a-test.false) in
+    let v = start_at_lem _ _ _ G _ c.requires.0 _ _ _ l.invariant.0 _ refl in
     record {
-      many = l.invariant.1.size ∙ c.requires.1;
-      most = targets_few _ _ _ G _ c.requires.1 _ _ _ l.invariant.1 l.invariant.0;
-      listed = targets_listed _ _ _ G _ c.requires.1 _ _ _ l.invariant.1 (search rules) l.invariant.0;
-      long = simp length-set l.invariant.2;
+      many = l.invariant.0.size ∙ c.requires.0;
+      most = targets_few _ _ _ G _ c.requires.0 _ _ _ l.invariant.0 m;
+      listed = targets_listed _ _ _ G _ c.requires.0 _ _ _ l.invariant.0 (search rules) m;
+      long = simp length-set l.invariant.1;
       started =
-          tabulate_more (λ b. length (targets_before B b)) c.args.n _ l.starts (rw e at l.invariant.3) (omega (arith, l.invariant.2, G.most)) (rw e at v);
-      wide = l.invariant.4.size;
-      counted = sources_done B _ l.a _ l.invariant.4 G.count G.most (search rules) l.invariant.0;
+          tabulate_more (λ b. length (targets_before B b)) _ _ l.starts (rw e at l.invariant.2) (omega (arith, l.invariant.1, G.most)) (rw e at v);
+      wide = l.invariant.3.size;
+      counted = sources_done B _ l.a _ l.invariant.3 G.count G.most (search rules) m;
     }

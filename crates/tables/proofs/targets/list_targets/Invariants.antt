@@ -1,4 +1,4 @@
-use Prim.Native.Nat.{◌+◌, ◌-◌, ◌≤◌}
+use Prim.Native.Nat.{◌+◌}
 use mathlib.Core.Path.{◌≡◌}
 use lib.ListN.{length, take}
 use Rattle.finite.specs.Lists.{tabulate, collect}
@@ -11,11 +11,7 @@ use Rattle.tables.proofs.targets.list_targets.Given as goal
 
 abbrev pub invariant-loop-a : goal.invariant-loop-a
 invariant-loop-a l =
-    (l.a ≤ l.n)
-    × Added (collect l.a (targets_of (body_of l.plan))) 0 l.initial.targets l.at l.targets
+    Added (collect l.a (targets_of (body_of l.items.plan.now))) 0 l.initial.targets l.at l.targets
     × (length l.starts ≡ max_items + 1)
-    × (take l.a l.starts ≡ tabulate l.a (λ b. length (targets_before (body_of l.plan) b)))
-    × SourcesBefore (body_of l.plan) l.n l.a l.sources
-
-abbrev pub decreases-loop-a : goal.decreases-loop-a
-decreases-loop-a l = l.n - l.a
+    × (take l.a l.starts ≡ tabulate l.a (λ b. length (targets_before (body_of l.items.plan.now) b)))
+    × SourcesBefore (body_of l.items.plan.now) (length l.items.codes.now) l.a l.sources

@@ -1,9 +1,6 @@
 use borrow.Author.Rules.{rules}
-use Rattle.tables.proofs.Targeted.{passed_none, passed_block}
+use Rattle.tables.proofs.Targeted.{passed_block}
 use Rattle.tables.proofs.targets.skip_blocks.Goals as goal
-
-pub loop-at-init : goal.loop-at-init
-loop-at-init c = search (rules, passed_none)
 
 pub loop-at-preserved : goal.loop-at-preserved
 loop-at-preserved c = search (rules, passed_block)

@@ -1,4 +1,4 @@
-use Prim.Native.Nat.{◌-◌, ◌≤◌}
+use Prim.Native.Nat.{◌≤◌}
 use mathlib.Core.Path.{◌≡◌}
 use lib.ListN.{length, get_or, take}
 use Rattle.finite.specs.Lists.{gather}
@@ -11,6 +11,3 @@ abbrev pub invariant-loop-k : goal.invariant-loop-k
 invariant-loop-k l =
     Passed l.plan l.i l.count l.k × (l.n ≤ l.k) × (length l.reads ≡ max_accesses)
     × (take l.n l.reads ≡ gather l.k (is_read l.plan l.i) (λ j. get_or l.copies (region_at l.plan l.i j) 0))
-
-abbrev pub decreases-loop-k : goal.decreases-loop-k
-decreases-loop-k l = l.count - l.k

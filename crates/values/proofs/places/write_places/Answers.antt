@@ -16,6 +16,6 @@ returns c =
     let f = c.first_copy-first in
     let r = c.region_count-regions in
     let w = c.write_copies in
-    places_written _ _ _ c.requires.0 c.args.word c.args.values.now f.result (f.result + r.result) _ c.put_if.new.words w.new.copies
+    places_written _ _ _ c.requires.0 c.args.word c.args.values.now f.result (f.result + r.result) _ c.put_if.new.items w.new.copies
     (search rules) f.ensures.0 f.ensures.1 (ap (λ (x : ℕ). f.result + x) r.ensures.0)
     (c.slot_of.ensures.0 ∙ ap (λ (x : ℕ). slot_of x c.args.a) k) (rw k at c.put_if.ensures) w.ensures

@@ -1,6 +1,4 @@
-use Prim.Native.Nat.{◌-◌}
 use mathlib.Core.Path.{◌≡◌}
-use lib.ListN.{length}
 use Rattle.finite.specs.Update.{replaced}
 use Rattle.plan.specs.Layout.{is_written}
 use Rattle.graph.proofs.Accesses.{Passed, named}
@@ -8,8 +6,4 @@ use Rattle.values.proofs.places.write_task.Given as goal
 
 abbrev pub invariant-loop-k : goal.invariant-loop-k
 invariant-loop-k l =
-    Passed l.plan l.i l.count l.k × (length l.copies ≡ length l.initial.copies)
-    × (l.copies ≡ replaced (named l.plan l.i (is_written l.plan l.i) l.k) (λ g. l.word) l.initial.copies)
-
-abbrev pub decreases-loop-k : goal.decreases-loop-k
-decreases-loop-k l = l.count - l.k
+    Passed l.plan l.i l.count l.k × (l.copies ≡ replaced (named l.plan l.i (is_written l.plan l.i) l.k) (λ g. l.word) l.initial.copies)

@@ -14,10 +14,8 @@ pub returns : goal.returns
 returns c = search (rules, row_done)
 
 pub loop-b-preserved : goal.loop-b-preserved
-loop-b-preserved c = (
-  search rules,
-  elim c.if-marks-b-eq1.branch [
-    | then-marks-b-eq1 w ↦ rw (w.edges-is, w.end-is) (search (rules, row_more))
-    | else-marks-b-eq1 w ↦ rw (w.edges-is, w.end-is) (search (rules, row_other))
-  ],
-)
+loop-b-preserved c =
+    elim c.if-marks-b-eq1.branch [
+      | then-marks-b-eq1 w ↦ rw (w.edges-is, w.end-is) (search (rules, row_more))
+      | else-marks-b-eq1 w ↦ rw (w.edges-is, w.end-is) (search (rules, row_other))
+    ]

@@ -11,7 +11,7 @@ loop-a-preserved c =
     let pre = c.requires in (
       search rules,
       search (rules, meets_places),
-      task_more _ _ _ _ _ _ pre.0 (search rules) c.access_at-access.ensures (search rules) (search rules) _ _ _ _ _ pre.1 c.loop-a.invariant.2 c.meet_place-met.ensures,
+      task_more _ _ _ _ _ _ pre.0 (search rules) c.access-access.ensures (search rules) (search rules) _ _ _ _ _ pre.1 c.loop-a.invariant.2 c.meet_place-met.ensures,
     )
 
 pub returns : goal.returns

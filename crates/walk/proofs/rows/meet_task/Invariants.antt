@@ -1,10 +1,6 @@
-use Prim.Native.Nat.{◌-◌}
 use Rattle.graph.proofs.Accesses.{Passed, touch_to}
 use Rattle.walk.specs.Rows.{Places, Meets}
 use Rattle.walk.proofs.rows.meet_task.Given as goal
 
 abbrev pub invariant-loop-a : goal.invariant-loop-a
 invariant-loop-a l = Passed l.plan l.i l.count l.a × Places l.places × Meets (touch_to l.plan l.i l.a) l.initial.places l.places l.hit
-
-abbrev pub decreases-loop-a : goal.decreases-loop-a
-decreases-loop-a l = l.count - l.a

@@ -1,10 +1,6 @@
-use Prim.Native.Nat.{◌-◌}
 use Rattle.graph.proofs.Accesses.{Passed, touch_to}
 use Rattle.walk.specs.Rows.{Touches}
 use Rattle.walk.proofs.rows.note_task.Given as goal
 
 abbrev pub invariant-loop-a : goal.invariant-loop-a
 invariant-loop-a l = Passed l.plan l.i l.count l.a × Touches (touch_to l.plan l.i l.a) l.places
-
-abbrev pub decreases-loop-a : goal.decreases-loop-a
-decreases-loop-a l = l.count - l.a

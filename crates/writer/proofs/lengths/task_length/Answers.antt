@@ -10,7 +10,7 @@ use Rattle.writer.proofs.lengths.task_length.Goals as goal
 pub returns : goal.returns
 returns c =
     let a = c.args in
-    let w = a.words.now in
+    let w = a.plan.now in
     let e : c.three_length-numbers.result ≡ length (three (rank_of w a.i) (kernel_of w a.i) (constant_of w a.i)) =
-    rw (c.constant_of.ensures, c.kernel_of.ensures, c.rank_of.ensures) at c.three_length-numbers.ensures.0 in
+    rw (c.constant.ensures, c.kernel.ensures, c.rank.ensures) at c.three_length-numbers.ensures.0 in
     (omega (arith, task_length w a.i, c.accesses_length.ensures.0), search rules)

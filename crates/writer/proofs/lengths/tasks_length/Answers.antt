@@ -13,14 +13,14 @@ loop-i-init c = search (rules, sum_none)
 
 pub task_length-sum-requires : goal.task_length-sum-requires
 task_length-sum-requires c =
-    let w = c.args.words.now in
+    let w = c.args.plan.now in
     let form = formed w (form_words w c.requires.1) in
     let below : c.loop-i.i < tasks_of w = search rules in
-    (search rules, omega (arith, form.tasks_most), (form.used _ below).accesses_most)
+    (omega (arith, form.tasks_most), (form.used _ below).accesses_most)
 
 pub overflow_add-sum : goal.overflow_add-sum
 overflow_add-sum c =
-    let w = c.args.words.now in
+    let w = c.args.plan.now in
     let most = (formed w (form_words w c.requires.1)).tasks_most in
     search rules
 
@@ -29,6 +29,6 @@ loop-i-preserved c = search (rules, sum_more)
 
 pub returns : goal.returns
 returns c =
-    let w = c.args.words.now in
-    let s = sum_done (task_lines w) 289 (tasks_of w) _ _ c.loop-i.invariant.1 (search rules) (search rules) in
+    let w = c.args.plan.now in
+    let s = sum_done (task_lines w) 289 (tasks_of w) _ _ c.loop-i.invariant (search rules) (search rules) in
     (s.all, omega (arith, s.most, (formed w (form_words w c.requires.1)).tasks_most))

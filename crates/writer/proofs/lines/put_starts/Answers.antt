@@ -1,5 +1,5 @@
 use borrow.Author.Rules.{rules}
-use Rattle.finite.proofs.Puts.{collect_none, collect_fits, collect_more, collect_done}
+use Rattle.finite.proofs.Puts.{collect_none, collect_fits, collect_more}
 use Rattle.writer.specs.Parts.{start_line}
 use Rattle.writer.proofs.lines.put_starts.Goals as goal
 
@@ -8,10 +8,7 @@ loop-g-init c = search (rules, collect_none)
 
 pub put_start-end-requires : goal.put_start-end-requires
 put_start-end-requires c =
-    (search rules, search rules, collect_fits (start_line c.args.words.now) _ _ _ _ _ _ c.requires.2 c.loop-g.invariant.1 (search rules))
+    (search rules, collect_fits (start_line c.args.plan.now) _ _ _ _ _ _ c.requires.1 c.loop-g.invariant (search rules))
 
 pub loop-g-preserved : goal.loop-g-preserved
 loop-g-preserved c = search (rules, collect_more)
-
-pub returns : goal.returns
-returns c = collect_done (start_line _) _ _ _ _ _ _ c.loop-g.invariant.1 (search rules) (search rules)

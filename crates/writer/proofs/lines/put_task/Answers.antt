@@ -5,17 +5,17 @@ use Rattle.writer.proofs.lines.put_task.Goals as goal
 
 pub put_begin-head-requires : goal.put_begin-head-requires
 unfolding task_lines
-put_begin-head-requires c = (search rules, search rules, room_first _ _ c.requires.3)
+put_begin-head-requires c = (search rules, room_first _ _ c.requires.2)
 
 pub put_accesses-accesses-requires : goal.put_accesses-accesses-requires
 unfolding task_lines
 put_accesses-accesses-requires c =
-    (search rules, search rules, search rules, room_first _ _ (room_rest c.put_begin-head.ensures c.requires.3))
+    (search rules, search rules, room_first _ _ (room_rest c.put_begin-head.ensures c.requires.2))
 
 pub put_bytes-requires : goal.put_bytes-requires
 unfolding task_lines
 put_bytes-requires c =
-    room_rest c.put_accesses-accesses.ensures (room_rest c.put_begin-head.ensures c.requires.3)
+    room_rest c.put_accesses-accesses.ensures (room_rest c.put_begin-head.ensures c.requires.2)
 
 pub returns : goal.returns
 unfolding task_lines

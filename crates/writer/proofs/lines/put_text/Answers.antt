@@ -1,5 +1,4 @@
 use mathlib.Core.Path.{sym}
-use borrow.Author.Rules.{rules}
 use Rattle.finite.proofs.Puts.{added_append, added_put, added_same, room_first, room_rest, room_same, room_start}
 use Rattle.plan.proofs.Facts.{formed}
 use Rattle.graph.proofs.Small.{form_words}
@@ -7,12 +6,11 @@ use Rattle.writer.proofs.Parts.{text_parts}
 use Rattle.writer.proofs.lines.put_text.Goals as goal
 
 pub put_loop-head-requires : goal.put_loop-head-requires
-put_loop-head-requires c = (search rules, room_first _ _ (room_same (text_parts _) (room_start c.requires.2)))
+put_loop-head-requires c = room_first _ _ (room_same (text_parts _) (room_start c.requires.2))
 
 pub put_starts-starts-requires : goal.put_starts-starts-requires
 put_starts-starts-requires c =
-    let w = c.args.words.now in (
-      search rules,
+    let w = c.args.plan.now in (
       (formed w (form_words w c.requires.1)).regions_most,
       room_first _ _ (room_rest c.put_loop-head.ensures (room_same (text_parts _) (room_start c.requires.2))),
     )
