@@ -26,7 +26,9 @@ impl From<Result<u64, Refusal>> for Answer {
 
     ghost from_gives = { λ r answer. answer ≡ answer_of r };
 
-    fn from(r: Result<u64, Refusal>) -> Answer {
+    fn from(r: Result<u64, Refusal>) -> Answer
+        ensures { result ≡ answer_of r }
+    {
         match r {
             Ok(word) => Answer { refusal: 0, word },
             Err(refusal) => Answer {

@@ -11,6 +11,8 @@ use plan::state::Count;
 use values::openings::open_values;
 
 // Every copy to its starting value; passes, slots and held words to 0; the unmet waits are counted.
+// Inlined, its arrays would lie on the stack beneath those of the door.
+#[inline(never)]
 pub fn open_clear(items: &Items, counts: &mut [Count], values: &mut [u64])
     requires { (count_words ≤ length counts.old) × (value_words ≤ length values.old) }
     ensures { told_opening 0 counts.new values.new ≡ open_of items.now.plan.now counts.old values.old }

@@ -34,7 +34,11 @@ impl<'a> Freed for FreedList<'a> {
 
     ghost more = { λ s t u xs ys p q. listed_more xs ys p q };
 
-    fn put(&mut self, item: usize) {
+    fn put(&mut self, item: usize)
+        requires { (self.old.at < length self.old.places.now) × (item < max_items) }
+        ensures { Added (item ∷ []) self.old.at self.old.places.now self.new.at self.new.places.now
+            × (self.new.places.ghost_name ≡ self.old.places.ghost_name) }
+    {
         self.places[self.at] = item as u16;
         self.at += 1;
     }
@@ -53,7 +57,11 @@ impl<'a> Freed for FreedSet<'a> {
 
     ghost more = { λ s t u xs ys p q. joined_more xs ys p q };
 
-    fn put(&mut self, item: usize) {
+    fn put(&mut self, item: usize)
+        requires { (length self.old.words.now ≡ mask_words) × (item < max_items) × (in_mask self.old.words.now item ≡ false) }
+        ensures { Joined self.old.words.now (item ∷ []) self.new.words.now
+            × (self.new.words.ghost_name ≡ self.old.words.ghost_name) }
+    {
         insert(self.words, item);
     }
 }

@@ -73,9 +73,11 @@ pub fn put_bytes(out: &mut [u8], at: usize, bytes: &[u8]) -> usize
     requires { RoomAt bytes.now at out.old }
     ensures { Added bytes.now at out.old result out.new }
 {
-    let end = at + bytes.len();
-    out[at..end].copy_from_slice(bytes);
-    end
+    // by a loop: with `copy_from_slice` the archive for C needs `memmove`
+    for i in 0..bytes.len() {
+        out[at + i] = bytes[i];
+    }
+    at + bytes.len()
 }
 
 // A field: the byte that parts it from what stands before it, and a number.

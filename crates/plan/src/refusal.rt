@@ -22,7 +22,9 @@ impl From<Refusal> for u64 {
 
     ghost from_gives = { λ refusal result. result ≡ number_of refusal };
 
-    fn from(refusal: Refusal) -> u64 {
+    fn from(refusal: Refusal) -> u64
+        ensures { result ≡ number_of refusal }
+    {
         refusal as u64
     }
 }

@@ -19,11 +19,16 @@ pub fn surplus(x: Count, y: Count) -> Count
 }
 
 // The passes of an item, of a plan with so many: one fewer where its code says so. None below 0.
+// This tests the plan's passes, which the compiler takes out of the loops; `saturating_sub` would
+// test the item's.
 pub fn own_passes(passes: Count, code: u16) -> Count
     requires { code_fewer code ≤ 1 }
     ensures { result ≡ passes - code_fewer code }
 {
-    passes.saturating_sub(Count::from(code / 8192))
+    if passes == 0 {
+        return 0;
+    }
+    passes - Count::from(code / 8192)
 }
 
 // Items that a plan can have: 128 tasks, and a send and a receive for each of 256 transfers.

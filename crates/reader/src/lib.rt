@@ -56,7 +56,9 @@ impl From<TextRefusal> for u64 {
 
     ghost from_gives = { λ refusal result. result ≡ refusal_number refusal };
 
-    fn from(refusal: TextRefusal) -> u64 {
+    fn from(refusal: TextRefusal) -> u64
+        ensures { result ≡ refusal_number refusal }
+    {
         refusal as u64
     }
 }

@@ -7,12 +7,15 @@ use native.Mathlib.Nat.{mul-le-mul}
 use native.Mathlib.Omega.{arith}
 use borrow.Author.Tests.{ltb-true, lt-ltb, ne_eqb}
 use lib.Dec.{eqb, ltb}
+use Rattle.std.specs.Prelude.{Option, Some, None}
+use Rattle.std.specs.Option.{MatchOption}
 use Rattle.finite.proofs.Tests.{and-true}
 use Rattle.body.specs.Body.{Body}
 use Rattle.body.specs.Items.{item_count}
 use Rattle.plan.specs.Limits.{max_passes}
 use Rattle.plan.specs.Layout.{passes_of}
 use Rattle.plan.specs.Sizes.{max_items}
+use Rattle.graph.specs.Table.{Graph}
 use Rattle.graph.specs.Answers.{plan_body}
 use Rattle.masks.specs.Masks.{in_mask, Empty, Lowest}
 use Rattle.steps.specs.Answers.{started, finished}
@@ -21,6 +24,8 @@ use Rattle.steps.specs.Turns.{is_ready, Idle, Going, Over}
 use Rattle.steps.proofs.Running.{opened_idle, going_none, going_most, going_turn, none_ready}
 use Rattle.values.specs.Items.{Formed}
 use Rattle.values.proofs.Plans.{passes_few, plan_long, plan_body_lem, plan_formed}
+use Rattle.prepared.specs.Laws.{Prepared}
+use Rattle.calls.proofs.Behind.{graph_formed}
 use Rattle.runs.specs.Turns.{ReadyBut, FirstReady, Turn, Opened}
 use Rattle.runs.proofs.Stepping.{ready_steps}
 
@@ -49,6 +54,43 @@ module _ (w C words : List ℕ) (R : ReadyBut w C max_items words) where
 
     pub ready_but : ReadyBut w C a words'
     ready_but = record { size = L.size; each = λ b l. L.each b l ∙ ap (λ (t : Bool). t && not (eqb b a)) (all_ready b l) }
+
+-- what was taken out of the set of the items that are ready: the lowest, if it had one
+pub record Taken (w C : List ℕ) (lowest : Option ℕ) (words : List ℕ) : Type 0 where
+  pub before : List ℕ
+  pub set : ReadyBut w C max_items before
+  pub took : MatchOption lowest (Empty before × (words ≡ before)) (λ a. Lowest before a words)
+
+module _ {w C words : List ℕ} {lowest : Option ℕ} (T : Taken w C lowest words) where
+  module _ (a : ℕ) (e : lowest ≡ Some a) where
+    took_lowest : Lowest T.before a words
+    took_lowest = subst (λ (o : Option ℕ). MatchOption o (Empty T.before × (words ≡ T.before)) (λ a. Lowest T.before a words)) e T.took
+
+    pub taken_first : FirstReady w C a
+    taken_first = first_ready w C T.before T.set words a took_lowest
+
+    pub taken_but : ReadyBut w C a words
+    taken_but = ready_but w C T.before T.set words a took_lowest
+
+  pub taken_none : lowest ≡ None → item_count (plan_body w) ≤ max_items → (b : ℕ) → b < item_count (plan_body w) → is_ready (plan_body w) C b ≡ false
+  taken_none e m = none_stands w C T.before T.set (subst (λ (o : Option ℕ). MatchOption o (Empty T.before × (words ≡ T.before)) (λ a. Lowest T.before a words)) e T.took).0 m
+
+-- what holds of the words of the items' plan holds of a plan with the same
+module _ {w p : List ℕ} (e : w ≡ p) where
+  pub formed_as : (table : List ℕ) (n : ℕ) → Graph w table n → Formed p
+  formed_as table n G = subst Formed e (graph_formed w table n G)
+
+  pub ready_as : (C words : List ℕ) → ReadyBut w C max_items words → ReadyBut p C max_items words
+  ready_as C words r = subst (λ z. ReadyBut z C max_items words) e r
+
+  pub prepared_as : (tables : List ℕ) → Prepared w tables → Prepared p tables
+  prepared_as tables r = subst (λ z. Prepared z tables) e r
+
+  pub opened_as : (s : Lent) → Opened w s → Opened p s
+  opened_as s r = subst (λ z. Opened z s) e r
+
+  pub ran_as : (s t : Lent) (k : ℕ) → Going w s t k × Over w t → Going p s t k × Over p t
+  ran_as s t k r = subst (λ z. Going z s t k × Over z t) e r
 
 module _ (w : List ℕ) (F : Formed w) where
   pub going_starts : (s : Lent) → Opened w s → Going w s s 0

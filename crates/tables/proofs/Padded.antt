@@ -1,11 +1,11 @@
 -- Laws of padded parts: numbers and zeros behind them.
 use Prim.Native.Nat.{ℕ, ◌+◌, ◌-◌, ◌≤◌, ◌<◌}
-use mathlib.Core.Path.{◌≡◌, sym, ◌∙◌, ap}
+use mathlib.Core.Path.{◌≡◌, sym, ◌∙◌, ap, subst}
 use mathlib.Core.List.{List, ◌++◌, append_assoc}
 use native.Mathlib.Decide.{dec_lt}
 use native.Mathlib.Omega.{arith}
-use lib.ListN.{length, get_or, take, drop, replicate, length-append, length-drop, length-replicate, get_or-replicate, replicate-append-replicate, get_or-append, get_or-eq_default}
-use lib.Seq.{length-take-le, take_at, drop_at, get_or-append-add, drop-drop, sets-eq}
+use lib.ListN.{length, get_or, take, drop, set, replicate, length-append, length-drop, length-replicate, get_or-replicate, replicate-append-replicate, get_or-append, get_or-eq_default}
+use lib.Seq.{get_or-set_same, get_or-set_other, length-take-le, take_at, drop_at, get_or-take, get_or-append-add, drop-drop, sets-eq}
 use Rattle.finite.specs.Put.{Added}
 use Rattle.finite.proofs.Lists.{length_tabulate, get_d_tabulate}
 use Rattle.finite.proofs.Replaced.{list_ext}
@@ -60,6 +60,19 @@ padded_front k l zs xs h z e =
 pub padded_added : (k : ℕ) (l zs : List ℕ) (r : ℕ) (xs : List ℕ) → length l ≤ k → zs ≡ replicate k 0 → Added l 0 zs r xs → xs ≡ padded k l
 padded_added k l zs r xs h z a =
     padded_front k l zs xs h z (added_put (omega (arith, ap length z, length-replicate {A = ℕ} k 0)) a).begins
+
+-- the loop of `pad`
+pub copied_more : (from front : List ℕ) (k : ℕ) → ((j : ℕ) → j < k → get_or front j 0 ≡ get_or from j 0) → k < length front →
+    (j : ℕ) → j < k + 1 → get_or (set front k (get_or from k 0)) j 0 ≡ get_or from j 0
+copied_more from front k h l j m =
+    elim (dec_lt j k) [
+      | yes o ↦ get_or-set_other front k j (get_or from k 0) 0 (λ e. omega (arith, e, o)) ∙ h j o
+      | no o ↦ let e : k ≡ j = omega arith in subst (λ (i : ℕ). get_or (set front k (get_or from k 0)) i 0 ≡ get_or from i 0) e (get_or-set_same front k (get_or from k 0) 0 l)
+    ]
+
+pub copied_done : (from front : List ℕ) (n : ℕ) → length front ≡ n → n ≤ length from → ((j : ℕ) → j < n → get_or front j 0 ≡ get_or from j 0) → front ≡ take n from
+copied_done from front n e l h =
+    list_ext front (take n from) (omega (arith, e, length-take-le n from l)) (λ i m. let o : i < n = omega (arith, e) in h i o ∙ sym (get_or-take n from i 0 o))
 
 -- `pad`
 pub pad_done : (from front rest : List ℕ) (n k : ℕ) → n ≤ length from → n ≤ k → front ≡ take n from → rest ≡ replicate (k - n) 0 → front ++ rest ≡ padded k (take n from)

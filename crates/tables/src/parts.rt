@@ -9,7 +9,10 @@ fn pad(from: &[u16], n: usize, part: &mut [u16])
     ensures { part.new ≡ padded (length part.old) (take n from.now) }
 {
     let (front, rest) = part.split_at_mut(n);
-    front.copy_from_slice(&from[..n]);
+    // by a loop: with `copy_from_slice` the archive for C needs `memmove`
+    for k in 0..n {
+        front[k] = from[k];
+    }
     rest.fill(0);
 }
 

@@ -4,12 +4,10 @@
 // nothing between calls.
 #![tactic(auto)]
 
-ghost use Rattle.std.specs.Prelude.{◌≡◌, IfOk, take};
-ghost use Rattle.plan.specs.Layout.{plan_words};
-ghost use Rattle.plan.specs.Sizes.{max_items};
+ghost use Rattle.std.specs.Prelude.{◌≡◌, ◌&&◌, leb, length};
+ghost use Rattle.plan.specs.Sizes.{count_words, value_words};
 ghost use Rattle.plan.specs.Refusals.{number_of, refusal_number};
 ghost use Rattle.reader.specs.Answer.{Reads};
-ghost use Rattle.graph.specs.Table.{Graph};
 ghost use Rattle.graph.specs.Answers.{ItemsAnswer, EdgesAnswer, TotalAnswer};
 ghost use Rattle.steps.specs.Answers.{open_of, start_of, finish_of, result_of};
 ghost use Rattle.steps.specs.Calls.{lent, call};
@@ -18,6 +16,7 @@ ghost use Rattle.prepared.specs.Tables.{PrepareAnswer};
 ghost use Rattle.prepared.specs.Steps.{start_prepared, finish_prepared, FreeingAnswer};
 ghost use Rattle.journal.specs.Checking.{check_of, check_more_of, told_check};
 ghost use Rattle.writer.specs.Answer.{WriteAnswer};
+ghost use Rattle.doors.specs.Doors.{ByPlan};
 ghost use Rattle.calls.specs.Told.{answer_of, told, told_opening};
 ghost use Rattle.taskiter.specs.Told.{number_told};
 ghost use Rattle.taskiter.specs.Played.{call_of, Played};
@@ -158,7 +157,7 @@ fn try_open(
     table: &mut [u16; MAX_ITEMS],
 ) -> Result<usize, Refusal>
     ensures { (told_opening (refusal_number result) counts.new values.new ≡ open_of plan.now counts.old values.old)
-        × IfOk result (λ n. Graph (take plan_words plan.now) table.new n) }
+        × ByPlan plan.now (leb count_words (length counts.old) && leb value_words (length values.old)) table.old result table.new }
 {
     let long = (COUNTS <= counts.len()) & (VALUES <= values.len());
     let n = enter_plan(plan, long, table)?;

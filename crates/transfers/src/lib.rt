@@ -242,6 +242,7 @@ impl Search<'_> {
         requires { (words_ok plan.now ≡ true) × (self.old.last.now ≡ noted_tasks plan.now (tasks_of plan.now) (no_writers (regions_of plan.now)))
             × (self.old.ahead.now ≡ ahead_masks plan.now) × Closed plan.now 0 self.old.masks.now wrapped.old self.old.total }
         ensures same_reference { self.new.masks.ghost_name ≡ self.old.masks.ghost_name }
+        ensures kept { (self.new.last.now ≡ self.old.last.now) × (self.new.ahead.now ≡ self.old.ahead.now) }
         ensures closed { Closed plan.now (regions_of plan.now) self.new.masks.now wrapped.new self.new.total }
     {
         let regions = plan.regions() as usize;

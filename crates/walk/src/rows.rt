@@ -129,7 +129,9 @@ fn may_be_open(hit: bool, places: &[u8]) -> bool
     any_open(places)
 }
 
-// Passes `count` items from lo on, as long as a place is open.
+// Passes `count` items from lo on, as long as a place is open. Inlined, a call knows its direction
+// and where the items stand: else listing edges takes up to twice the time.
+#[inline(always)]
 fn mark_run(
     items: &Items,
     q: u64,

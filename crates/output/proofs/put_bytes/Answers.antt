@@ -1,13 +1,12 @@
-use Rattle.std.proofs.Common.{◌≡◌, ◌+◌, ◌-◌, arith, drop, drop-drop, length, refl, sym, take, ◌∙◌}
-use Rattle.std.proofs.lemmas.List.{append_assoc}
-use Rattle.std.proofs.lemmas.List.Edits.{sets-eq}
-use Rattle.finite.proofs.Puts.{added}
+use borrow.Author.Rules.{rules}
+use Rattle.finite.proofs.Puts.{copy_none, copy_more, copy_done}
 use Rattle.output.proofs.put_bytes.Goals as goal
 
+pub loop-i-init : goal.loop-i-init
+loop-i-init c = search (rules, copy_none)
+
+pub loop-i-preserved : goal.loop-i-preserved
+loop-i-preserved c = search (rules, copy_more)
+
 pub returns : goal.returns
-returns c =
-    let out = c.args.out.now in
-    let at = c.args.at in
-    let bytes = c.args.bytes.now in
-    let k : at + length bytes - at ≡ length bytes = omega arith in
-    added refl (rw (c.copy_from_slice.ensures.after, k, drop-drop (length bytes) at out) (sym (sets-eq bytes out at c.requires.fits ∙ append_assoc (take at out) bytes (drop (at + length bytes) out))))
+returns c = search (rules, copy_done)

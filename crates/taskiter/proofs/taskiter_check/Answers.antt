@@ -15,14 +15,14 @@ returns-then-is_short c =
 
 pub slice_bounds-new-end : goal.slice_bounds-new-end
 slice_bounds-new-end c =
-    sym (length-take-le _ c.args.plan.now (graph_room c.args.plan.now _ _ c.in-Ok.ensures.1))
+    sym (length-take-le _ c.args.plan.now (graph_room c.args.plan.now _ _ c.in-Ok.ensures.1.clear))
 
 pub new-words-requires : goal.new-words-requires
 new-words-requires c =
-    omega (arith, length-take-le _ c.args.plan.now (graph_room c.args.plan.now _ _ c.in-Ok.ensures.1))
+    omega (arith, length-take-le _ c.args.plan.now (graph_room c.args.plan.now _ _ c.in-Ok.ensures.1.clear))
 
 pub new-items-requires : goal.new-items-requires
-new-items-requires c = let G = c.in-Ok.ensures.1 in (rw c.new-words.ensures G, omega (arith, G.most))
+new-items-requires c = let G = c.in-Ok.ensures.1.clear in (rw c.new-words.ensures G, omega (arith, G.most))
 
 pub check_clear-requires : goal.check_clear-requires
 check_clear-requires c =

@@ -13,7 +13,7 @@ use Rattle.taskiter.proofs.try_open.Goals as goal
 pub returns-in_err-n : goal.returns-in_err-n
 returns-in_err-n c =
     let p = err_from_is_err_and c.from_residual.result c.from_residual.ensures.1 in
-    rw (p.1, p.2) ((open_refused c.args.plan.now c.args.counts.now c.args.values.now _ _ _ c.in_err-n.ensures, tt))
+    rw (p.1, p.2) ((open_refused c.args.plan.now c.args.counts.now c.args.values.now _ _ _ c.in_err-n.ensures, c.in_err-n.ensures))
 
 pub slice_bounds-new-end : goal.slice_bounds-new-end
 slice_bounds-new-end c =
@@ -38,5 +38,5 @@ open_clear-requires c =
 pub returns : goal.returns
 returns c =
     let P = c.args.plan.now in
-    let G = c.in_ok-n.ensures.clear in
-    (open_passed P c.args.counts.now c.args.values.now (graph_room P _ _ G) _ (rw (c.new-items.ensures.0 ∙ c.new-plan.ensures) at c.open_clear.ensures), G)
+    let B = c.in_ok-n.ensures in
+    (open_passed P c.args.counts.now c.args.values.now (graph_room P _ _ B.clear) _ (rw (c.new-items.ensures.0 ∙ c.new-plan.ensures) at c.open_clear.ensures), B)
